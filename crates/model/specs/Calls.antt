@@ -1,0 +1,86 @@
+-- What check, certify and post answer on every input, and what the board then holds.
+use mathlib.Core.Bool.{Bool, true, false}
+use mathlib.Core.List.{List, [], _∷_, _++_}
+use Prim.Native.Nat.{ℕ, _+_, _*_}
+use lib.IntN.{ℤ}
+use lib.ListN.{length, take, drop}
+use Rattle.sums.specs.Span.{Fault, fine, fault, orElse}
+use Rattle.model.specs.declared.Refusal.{Refusal}
+use Rattle.model.specs.declared.Refusal.the-variants.{Shape, DataLength, Entry, Scale, PlanLength, RowOffScale, Broken, CostOffScale, MultiplierCount, Multiplier, ColumnOffScale, Underpriced, GapOffScale, Board, Frame}
+use Rattle.model.specs.declared.Code.{Code}
+use Rattle.model.specs.declared.Answer.{Answer}
+use Rattle.model.specs.declared.Answer.the-variants.{Accepted, Refused}
+use Rattle.model.specs.declared.Certificate.{Certificate}
+use Rattle.model.specs.declared.Certificate.the-variants.{Issued, Withheld}
+use Rattle.model.specs.Data.{Data, read, G, S}
+use Rattle.model.specs.Columns.{entries, columnNumber, gen}
+use Rattle.model.specs.Prices.{cost}
+use Rattle.model.specs.Tests.{dataFault, planFault, dualFault, gap, boardFault}
+
+-- document 01's number and place of each refusal
+unfoldable pub codeOf : Refusal → Code
+codeOf (Shape i) = record { number = 1; place = i }
+codeOf (DataLength n) = record { number = 2; place = n }
+codeOf (Entry i) = record { number = 3; place = i }
+codeOf Scale = record { number = 4; place = 0 }
+codeOf (PlanLength n) = record { number = 5; place = n }
+codeOf (RowOffScale r) = record { number = 6; place = r }
+codeOf (Broken r) = record { number = 7; place = r }
+codeOf CostOffScale = record { number = 8; place = 0 }
+codeOf (MultiplierCount n) = record { number = 9; place = n }
+codeOf (Multiplier r) = record { number = 10; place = r }
+codeOf (ColumnOffScale c) = record { number = 11; place = c }
+codeOf (Underpriced c) = record { number = 12; place = c }
+codeOf GapOffScale = record { number = 13; place = 0 }
+codeOf Board = record { number = 14; place = 0 }
+codeOf (Frame n) = record { number = 15; place = n }
+
+abbrev pub answer : Fault Refusal → ℕ → Answer
+answer fine c = Accepted c
+answer (fault r) c = Refused r
+
+abbrev pub certificate : Fault Refusal → ℕ → ℕ → Certificate
+certificate fine c g = Issued c g
+certificate (fault r) c g = Withheld r
+
+-- check: data, N, plan; the cost
+unfoldable pub checkFault : List ℕ → ℕ → List ℕ → Fault Refusal
+checkFault l N plan = orElse (dataFault l) (planFault (read l) N plan)
+
+unfoldable pub costOf : List ℕ → List ℕ → ℕ
+costOf l plan = cost (read l) (entries (read l) plan)
+
+unfoldable pub check : List ℕ → ℕ → List ℕ → Answer
+check l N plan = answer (checkFault l N plan) (costOf l plan)
+
+-- certify: data, N, plan, multipliers; cost and gap
+unfoldable pub certifyFault : List ℕ → ℕ → List ℕ → List ℤ → Fault Refusal
+certifyFault l N plan ms = orElse (checkFault l N plan) (dualFault (read l) ms N)
+
+unfoldable pub gapOf : List ℕ → ℕ → List ℕ → List ℤ → ℕ
+gapOf l N plan ms = gap (read l) ms N (costOf l plan)
+
+unfoldable pub certify : List ℕ → ℕ → List ℕ → List ℤ → Certificate
+certify l N plan ms = certificate (certifyFault l N plan ms) (costOf l plan) (gapOf l N plan ms)
+
+-- post: data, N, plan, year index, board, start; the cost, and the year's part of the gen table on the board
+unfoldable pub postFault : List ℕ → ℕ → List ℕ → ℕ → List ℕ → ℕ → Fault Refusal
+postFault l N plan y board start = orElse (checkFault l N plan) (boardFault (read l) y (length board) start)
+
+unfoldable pub post : List ℕ → ℕ → List ℕ → ℕ → List ℕ → ℕ → Answer
+post l N plan y board start = answer (postFault l N plan y board start) (costOf l plan)
+
+-- G·S numbers
+unfoldable pub yearOutputs : Data → List ℕ → ℕ → List ℕ
+yearOutputs D plan y = take (G D * S D) (drop (columnNumber D (gen y 0 0)) plan)
+
+unfoldable pub replaced : List ℕ → ℕ → List ℕ → List ℕ
+replaced board start part = take start board ++ (part ++ drop (start + length part) board)
+
+abbrev pub boardAfter : Fault Refusal → List ℕ → List ℕ → List ℕ
+boardAfter fine old new = new
+boardAfter (fault r) old new = old
+
+-- the board after post: on a refusal exactly what it held
+unfoldable pub posted : List ℕ → ℕ → List ℕ → ℕ → List ℕ → ℕ → List ℕ
+posted l N plan y board start = boardAfter (postFault l N plan y board start) board (replaced board start (yearOutputs (read l) plan y))

@@ -1,0 +1,10 @@
+pub mod Counts
+pub mod Data
+pub mod Columns
+pub mod Families
+pub mod Prices
+pub mod Tests
+pub mod Calls
+pub mod Rival
+pub mod Standing
+pub mod Station
