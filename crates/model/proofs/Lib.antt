@@ -1,1 +1,5 @@
 pub mod Station
+pub mod Members
+pub mod Within
+pub mod Printed
+pub mod Demand

@@ -6,5 +6,7 @@ pub mod Prices
 pub mod Tests
 pub mod Calls
 pub mod Rival
+pub mod Printed
 pub mod Standing
 pub mod Station
+pub mod Claims

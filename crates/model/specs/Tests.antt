@@ -5,6 +5,7 @@ use Prim.Native.Nat.{ℕ, zero, suc, _+_, _*_, _-_, _^_}
 use lib.Dec.{eqb, leb, ltb}
 use lib.IntN.{ℤ, pos, negsuc}
 use lib.ListN.{length, getD}
+use Rattle.capped.specs.Cap.{limit}
 use Rattle.sums.specs.Sum.{on}
 use Rattle.sums.specs.Span.{Fault, fine, fault, orElse, upto, total, first}
 use Rattle.sums.specs.Index.{Index, index, count, members}
@@ -16,16 +17,14 @@ use Rattle.model.specs.Columns.{columns, columnNumber, columnBoxes, entr
 use Rattle.model.specs.Families.{Equation, equation, equal, rows, rowNumber, rowBoxes}
 use Rattle.model.specs.Prices.{price, cost}
 
--- the largest sum that passes, 2^62 − 1; the largest scale; the largest multiplier
-abbrev pub limit : ℕ
-limit = 0x3fff_ffff_ffff_ffff
+-- the largest sum that passes is `limit`, 2^62 − 1, of the capped sums; the largest scale; the largest multiplier
 abbrev pub mostScale : ℕ
 mostScale = 1000
 abbrev pub mostMultiplier : ℕ
 mostMultiplier = 2 ^ 40
 
 -- a refusal where a test fails
-abbrev pub unless : Bool → Refusal → Fault Refusal
+unfoldable pub unless : Bool → Refusal → Fault Refusal
 unless true r = fine
 unless false r = fault r
 

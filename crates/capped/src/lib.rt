@@ -1,0 +1,203 @@
+// Capped sums: a sum of natural numbers that is exact up to 2^62 - 1, or known to be above it.
+//
+// The crates above hold a `Sum`, and never match on one: they add to it, compare it, and ask for its value by the functions below.
+// Each function says its result by one equation over `specs/Cap.antt`, for every input; `proofs/Laws.antt` has the laws that callers cite.
+ghost use mathlib.Core.Path.{_≡_};
+ghost use Prim.Native.Nat.{_+_, _*_};
+ghost use Rattle.capped.specs.declared.Sum.the-variants.{Exact};
+ghost use Rattle.capped.specs.Cap.{cap, plus, both, times, order, over, told, netOf};
+
+// The largest total that a capped sum holds, 2^62 - 1: `limit` in the specs.
+const LIMIT: u64 = 0x3fff_ffff_ffff_ffff;
+
+pub enum Sum {
+    Exact(u64),
+    Over,
+}
+
+// What a sum comes to.
+pub enum Amount {
+    Exactly(u64),
+    Above,
+}
+
+// How two sums compare. Of two that are over nothing is known.
+pub enum Order {
+    Less,
+    Equal,
+    Greater,
+    Unknown,
+}
+
+// What is left when one sum is taken from others. It may be above the limit.
+pub enum Balance {
+    Is(u64),
+    BelowZero,
+    Unsure,
+}
+
+pub fn zero() -> Sum
+    ensures { λ r. ⌜ r ≡ cap 0 ⌝ }
+{
+    Sum::Exact(0)
+}
+
+pub fn of(n: u64) -> Sum
+    ensures { λ r. ⌜ r ≡ cap n ⌝ }
+{
+    if n > LIMIT {
+        return Sum::Over;
+    }
+    Sum::Exact(n)
+}
+
+pub fn add(s: Sum, n: u64) -> Sum
+    ensures { λ r. ⌜ r ≡ plus s n ⌝ }
+{
+    let Sum::Exact(v) = s else {
+        return Sum::Over;
+    };
+    // No function here makes an exact sum above the limit, but a caller can: without this test `LIMIT - v` could wrap.
+    if v > LIMIT {
+        return Sum::Over;
+    }
+    if n > LIMIT - v {
+        return Sum::Over;
+    }
+    Sum::Exact(v + n)
+}
+
+// The sum of two sums.
+pub fn join(s: Sum, t: Sum) -> Sum
+    ensures { λ r. ⌜ r ≡ both s t ⌝ }
+{
+    let Sum::Exact(n) = t else {
+        return Sum::Over;
+    };
+    add(s, n)
+}
+
+// Every product is made here. The zero factor is tested first: `LIMIT / b` needs it.
+pub fn product(a: u64, b: u64) -> Sum
+    ensures { λ r. ⌜ r ≡ cap (a * b) ⌝ }
+{
+    if b == 0 {
+        return Sum::Exact(0);
+    }
+    if a > LIMIT / b {
+        return Sum::Over;
+    }
+    Sum::Exact(a * b)
+}
+
+// `n` times a sum. A zero factor gives 0, also of a sum that is over.
+pub fn scale(s: Sum, n: u64) -> Sum
+    ensures { λ r. ⌜ r ≡ times s n ⌝ }
+{
+    if n == 0 {
+        return Sum::Exact(0);
+    }
+    let Sum::Exact(v) = s else {
+        return Sum::Over;
+    };
+    product(v, n)
+}
+
+pub fn add_product(s: Sum, a: u64, b: u64) -> Sum
+    ensures { λ r. ⌜ r ≡ plus s (a * b) ⌝ }
+{
+    join(s, product(a, b))
+}
+
+// `a * b` may be over and `c` 0: then nothing is added.
+pub fn add_product3(s: Sum, a: u64, b: u64, c: u64) -> Sum
+    ensures { λ r. ⌜ r ≡ plus s (a * b * c) ⌝ }
+{
+    join(s, scale(product(a, b), c))
+}
+
+fn rank(v: u64, w: u64) -> Order
+    ensures { λ r. ⌜ r ≡ order (Exact v) (Exact w) ⌝ }
+{
+    if v < w {
+        return Order::Less;
+    }
+    if w < v {
+        return Order::Greater;
+    }
+    Order::Equal
+}
+
+// By number where both are exact; an exact sum is less than one that is over.
+pub fn compare(s: Sum, t: Sum) -> Order
+    ensures { λ r. ⌜ r ≡ order s t ⌝ }
+{
+    match s {
+        Sum::Exact(v) => match t {
+            Sum::Exact(w) => rank(v, w),
+            Sum::Over => Order::Less,
+        },
+        Sum::Over => match t {
+            Sum::Exact(_) => Order::Greater,
+            Sum::Over => Order::Unknown,
+        },
+    }
+}
+
+pub fn is_over(s: Sum) -> bool
+    ensures { λ r. ⌜ r ≡ over s ⌝ }
+{
+    match s {
+        Sum::Exact(_) => false,
+        Sum::Over => true,
+    }
+}
+
+pub fn value(s: Sum) -> Amount
+    ensures { λ r. ⌜ r ≡ told s ⌝ }
+{
+    match s {
+        Sum::Exact(v) => Amount::Exactly(v),
+        Sum::Over => Amount::Above,
+    }
+}
+
+fn subtract(a: u64, b: u64, c: u64) -> Balance
+    ensures { λ r. ⌜ r ≡ netOf (Exact a) (Exact b) (Exact c) ⌝ }
+{
+    // As in `add`: with both at most the limit, `a + b` cannot wrap.
+    if a > LIMIT {
+        return Balance::Unsure;
+    }
+    if b > LIMIT {
+        return Balance::Unsure;
+    }
+    let total = a + b;
+    if total < c {
+        return Balance::BelowZero;
+    }
+    Balance::Is(total - c)
+}
+
+// a + b - c, where all three are exact. The sum of two exact sums is held even where it is above the limit.
+pub fn net(a: Sum, b: Sum, c: Sum) -> Balance
+    ensures { λ r. ⌜ r ≡ netOf a b c ⌝ }
+{
+    let Sum::Exact(x) = a else {
+        return Balance::Unsure;
+    };
+    let Sum::Exact(y) = b else {
+        return Balance::Unsure;
+    };
+    let Sum::Exact(z) = c else {
+        return Balance::Unsure;
+    };
+    subtract(x, y, z)
+}
+
+// s - t
+pub fn difference(s: Sum, t: Sum) -> Balance
+    ensures { λ r. ⌜ r ≡ netOf s (cap 0) t ⌝ }
+{
+    net(s, zero(), t)
+}

@@ -1,0 +1,140 @@
+-- Demand 3, and the gap with nothing cut off: an accepted certificate is a dual solution, and weak duality does the rest.
+use mathlib.Core.Path.{_≡_, refl, sym, _∙_, ap}
+use mathlib.Core.Bool.{Bool, true, false, _&&_}
+use mathlib.Core.List.{List}
+use Prim.Native.Nat.{ℕ, _+_, _*_, _-_, _≤_}
+use native.Mathlib.Nat.{mul-le-mul-left}
+use native.Mathlib.Omega.{arith}
+use lib.Dec.{eqb, leb}
+use lib.IntN.{ℤ}
+use borrow.Author.Tests.{leb-true, eqb-true}
+use Rattle.sums.specs.Sum.{on}
+use Rattle.sums.specs.Span.{Fault, fine, fault, orElse, In, first, total}
+use Rattle.sums.specs.Index.{Index, Member}
+use Rattle.sums.specs.Linear.{value, coefficient}
+use Rattle.sums.specs.Duality.{Holds, Signed}
+use Rattle.sums.proofs.Spans.{fault-fine, orElse-fine, first-fine}
+use Rattle.sums.proofs.Indices.{member-in, in-member}
+use Rattle.sums.proofs.Linears.{spread}
+use Rattle.sums.proofs.Duality.{weak, binds}
+use Rattle.model.specs.declared.Refusal.{Refusal}
+use Rattle.model.specs.declared.Certificate.{Certificate}
+use Rattle.model.specs.declared.Certificate.the-variants.{Issued, Withheld}
+use Rattle.model.specs.Data.{Data, read}
+use Rattle.model.specs.Columns.{columns, columnBoxes, entries}
+use Rattle.model.specs.Families.{equation, equal, rows, rowBoxes}
+use Rattle.model.specs.Prices.{price, cost}
+use Rattle.model.specs.Tests.{unless, holds, constant⁺, constant⁻, above, below, rowFault, rowsFault, planFault, multiplierFault, m⁺, m⁻, mostMultiplier, priced⁺, priced⁻, columnFault, constants⁺, constants⁻, gap, multipliersFault, columnsFault, dualFault}
+use Rattle.model.specs.Calls.{certificate, checkFault, certifyFault, costOf, gapOf, certify}
+use Rattle.model.specs.Rival.{Rival, Bounds, Binds}
+use Rattle.model.specs.Claims.{Demand3, WholeGap}
+use Rattle.model.proofs.Within.{inside}
+
+-- what passed tests say
+passed : (b : Bool) (r : Refusal) → unless b r ≡ fine → b ≡ true
+unfolding unless
+passed true r e = refl
+passed false r e = fault-fine e
+
+both : (a b : Bool) → (a && b) ≡ true → (a ≡ true) × (b ≡ true)
+both true b e = (refl, e)
+both false b e = let z : _≡_ {A = ℕ} 0 1 = cc in absurd (omega arith)
+
+hold : (e : Bool) (lo hi : ℕ) → holds e lo hi ≡ true → Holds e lo hi
+hold true lo hi t = eqb-true lo hi t
+hold false lo hi t = leb-true lo hi t
+
+signed : (e : Bool) (n k : ℕ) → n ≤ on e k → Signed e n
+signed true n k h = tt
+signed false n k h = omega arith
+
+module _ (D : Data) where
+  row-holds : (N : ℕ) (x : Index → ℕ) (r : Index) → rowFault D N x r ≡ fine → Holds (equal r) (below D N x r) (above D N x r)
+  unfolding rowFault
+  row-holds N x r e = hold (equal r) (below D N x r) (above D N x r) (passed _ _ (orElse-fine _ _ e .1))
+
+  -- a plan whose rows have no fault meets all the equations
+  meets-all : (N : ℕ) (x : Index → ℕ) → rowsFault D N x ≡ fine → Rival D N x
+  unfolding rowsFault
+  meets-all N x e = record { meets = λ r m. row-holds N x r (first-fine (rows D) (rowFault D N x) e r (member-in (rowBoxes (D .counts)) r m)) }
+
+  -- the same over all columns, as weak duality reads it
+  over-columns : (M : ℕ) (x : Index → ℕ) → Rival D M x → (r : Index) → In (rows D) r
+      → Holds (equal r)
+      (total (columns D) (λ c. coefficient (equation D r .negative) c * x c) + M * constant⁻ D r)
+      (total (columns D) (λ c. coefficient (equation D r .positive) c * x c) + M * constant⁺ D r)
+  unfolding above below
+  over-columns M x h r l =
+      let m = in-member (rowBoxes (D .counts)) r l in
+      let w = inside D r m in
+      rw (spread (columnBoxes (D .counts)) x (equation D r .negative) (w .1), spread (columnBoxes (D .counts)) x (equation D r .positive) (w .0)) (h .meets r m)
+
+  module _ (ms : List ℤ) (signs : multipliersFault D ms ≡ fine) (prices : columnsFault D ms ≡ fine) where
+    sign-of : (r : Index) → In (rows D) r → Signed (equal r) (m⁻ D ms r)
+    unfolding multipliersFault multiplierFault
+    sign-of r l =
+        signed (equal r) (m⁻ D ms r) mostMultiplier
+        (leb-true _ _ (both (leb (m⁺ D ms r) mostMultiplier) (leb (m⁻ D ms r) (on (equal r) mostMultiplier)) (passed _ _ (first-fine (rows D) (multiplierFault D ms) signs r l)) .1))
+
+    price-of : (c : Index) → In (columns D) c → priced⁺ D ms c ≤ price D c + priced⁻ D ms c
+    unfolding columnsFault columnFault
+    price-of c l = leb-true _ _ (passed _ _ (orElse-fine _ _ (first-fine (columns D) (columnFault D ms) prices c l) .1))
+
+    -- the bound at scale M, and what it says of the plan itself
+    bounded : (M : ℕ) (x : Index → ℕ) → Rival D M x → M * constants⁻ D ms ≤ cost D x + M * constants⁺ D ms
+    unfolding constants⁺ constants⁻ priced⁺ priced⁻ cost
+    bounded M x h =
+        weak (rows D) (columns D) (λ r. coefficient (equation D r .positive)) (λ r. coefficient (equation D r .negative)) (constant⁺ D) (constant⁻ D)
+        (price D) (m⁺ D ms) (m⁻ D ms) equal sign-of price-of M x (over-columns M x h)
+
+    whole : (N : ℕ) (x : Index → ℕ) → Rival D N x → gap D ms N (cost D x) + N * constants⁻ D ms ≡ cost D x + N * constants⁺ D ms
+    unfolding gap
+    whole N x h = omega (arith, bounded N x h)
+
+    binding : (N : ℕ) (x : Index → ℕ) → Rival D N x → Bounds D N (cost D x) (gap D ms N (cost D x))
+    binding N x h M _ z k =
+        let bound : M * constants⁻ D ms ≤ cost D z + M * constants⁺ D ms = bounded M z k in
+        omega (arith, mul-le-mul-left N bound, ap (λ (v : ℕ). M * v) (whole N x h))
+
+-- an issued certificate: every test passed, and the figures are those of the formulas
+module _ (l : List ℕ) (N : ℕ) (plan : List ℕ) (ms : List ℤ) where
+  abbrev D : Data
+  D = read l
+
+  -- what the tests of certify say together
+  record Passed : Type 0 where
+    rows-pass : rowsFault D N (entries D plan) ≡ fine
+    signs-pass : multipliersFault D ms ≡ fine
+    prices-pass : columnsFault D ms ≡ fine
+
+  passed-all : certifyFault l N plan ms ≡ fine → Passed
+  unfolding certifyFault checkFault planFault dualFault
+  passed-all e =
+      let p = orElse-fine _ _ (orElse-fine _ _ (orElse-fine _ _ (orElse-fine _ _ (orElse-fine _ _ e .0) .1) .1) .1) in
+      let d = orElse-fine _ _ (orElse-fine _ _ (orElse-fine _ _ e .1) .1) in
+      record { rows-pass = p .0; signs-pass = d .0; prices-pass = orElse-fine _ _ (d .1) .0 }
+
+  certify-binds : (f : Fault Refusal) → certifyFault l N plan ms ≡ f → Binds l N (certificate f (costOf l plan) (gapOf l N plan ms))
+  unfolding costOf gapOf
+  certify-binds fine e =
+      let p = passed-all e in
+      binding D ms (p .signs-pass) (p .prices-pass) N (entries D plan) (meets-all D N (entries D plan) (p .rows-pass))
+  certify-binds (fault r) e = tt
+
+  certify-whole : (f : Fault Refusal) → certifyFault l N plan ms ≡ f → (c g : ℕ) → certificate f (costOf l plan) (gapOf l N plan ms) ≡ Issued c g
+      → g + N * constants⁻ D ms ≡ c + N * constants⁺ D ms
+  unfolding costOf gapOf
+  certify-whole fine e c g h =
+      let p = passed-all e in
+      let is : cost D (entries D plan) ≡ c = cc in
+      let by : gap D ms N (cost D (entries D plan)) ≡ g = cc in
+      rw (← is, ← by) (whole D ms (p .signs-pass) (p .prices-pass) N (entries D plan) (meets-all D N (entries D plan) (p .rows-pass)))
+  certify-whole (fault r) e c g h = let z : _≡_ {A = ℕ} 0 1 = cc in absurd (omega arith)
+
+pub demand3 : Demand3
+unfolding certify
+demand3 l N plan ms = certify-binds l N plan ms (certifyFault l N plan ms) refl
+
+pub whole-gap : WholeGap
+unfolding certify
+whole-gap l N plan ms c g h = certify-whole l N plan ms (certifyFault l N plan ms) refl c g h

@@ -1,0 +1,71 @@
+-- What is proved of the definitions, as statements; the proofs are in proofs/.
+-- Beside these: Printed.antt (each family reads as document 01 prints it) and Standing.antt (the rows of each kind of column).
+use mathlib.Core.Path.{_≡_}
+use mathlib.Core.List.{List, map}
+use Prim.Native.Nat.{ℕ, _+_, _*_, _≤_, _<_}
+use lib.IntN.{ℤ}
+use Rattle.sums.specs.Sum.{sum}
+use Rattle.sums.specs.Span.{listing, upFrom}
+use Rattle.sums.specs.Index.{Box, Index, members, Member, number, count}
+use Rattle.sums.specs.Linear.{coefficient}
+use Rattle.model.specs.declared.Certificate.the-variants.{Issued}
+use Rattle.model.specs.Counts.{Counts}
+use Rattle.model.specs.Data.{Data, read, tableBoxes, demand, peak, Z, G, Y, S}
+use Rattle.model.specs.Columns.{columnBoxes, columnNumber, cap, build, retire, gen, reserve, trans, unmet, surplus, spinshort, firmshort}
+use Rattle.model.specs.Families.{rowBoxes, equation}
+use Rattle.model.specs.Tests.{constants⁺, constants⁻}
+use Rattle.model.specs.Calls.{certify}
+use Rattle.model.specs.Rival.{Binds}
+use Rattle.model.specs.Station.{Case, run, cases}
+
+-- the ten cases of the one-plant station, over certify itself
+abbrev pub TenCases : Type 0
+TenCases = map run cases ≡ map (λ (k : Case). k .outcome) cases
+
+-- demand 3: whatever certify answers, where it issues a certificate this binds every rival plan at every scale
+abbrev pub Demand3 : Type 0
+Demand3 = (l : List ℕ) (N : ℕ) (plan : List ℕ) (ms : List ℤ) → Binds l N (certify l N plan ms)
+
+-- the answered gap is cost + N·Σ m·k with nothing cut off
+abbrev pub WholeGap : Type 0
+WholeGap =
+    (l : List ℕ) (N : ℕ) (plan : List ℕ) (ms : List ℤ) (c g : ℕ) → certify l N plan ms ≡ Issued c g
+    → g + N * constants⁻ (read l) ms ≡ c + N * constants⁺ (read l) ms
+
+-- no column stands in one row with both signs, so the two sums are those of one coefficient per column
+abbrev pub OneSign : Type 0
+OneSign =
+    (D : Data) (r c : Index) → Member (rowBoxes (D .counts)) r
+    → coefficient (equation D r .positive) c * coefficient (equation D r .negative) c ≡ 0
+
+-- listed in order, the numbers are 0, 1, 2, .. without gaps
+abbrev pub Numbered : List Box → Type 0
+Numbered boxes = map (number boxes) (listing (members boxes)) ≡ upFrom 0 (count boxes)
+
+pub record Numbers (c : Counts) : Type 0 where
+  pub rows : Numbered (rowBoxes c)
+  pub columns : Numbered (columnBoxes c)
+  pub entries : Numbered (tableBoxes c)
+
+-- the columns' numbers as a reader works them out
+pub record ColumnNumbers (D : Data) : Type 0 where
+  pub ofCap : (y g : ℕ) → columnNumber D (cap y g) ≡ y * G D + g
+  pub ofBuild : (y g : ℕ) → columnNumber D (build y g) ≡ Y D * G D + (y * G D + g)
+  pub ofRetire : (y g : ℕ) → columnNumber D (retire y g) ≡ 2 * (Y D * G D) + (y * G D + g)
+  pub ofGen : (y g s : ℕ) → columnNumber D (gen y g s) ≡ 3 * (Y D * G D) + ((y * G D + g) * S D + s)
+  pub ofReserve : (y g s : ℕ) → columnNumber D (reserve y g s) ≡ 3 * (Y D * G D) + Y D * G D * S D + ((y * G D + g) * S D + s)
+  pub ofTrans : (y z w s : ℕ) → columnNumber D (trans y z w s)
+      ≡ 3 * (Y D * G D) + 2 * (Y D * G D * S D) + (((y * Z D + z) * Z D + w) * S D + s)
+  pub ofUnmet : (y z s : ℕ) → columnNumber D (unmet y z s)
+      ≡ 3 * (Y D * G D) + 2 * (Y D * G D * S D) + Y D * Z D * Z D * S D + ((y * Z D + z) * S D + s)
+  pub ofSurplus : (y z s : ℕ) → columnNumber D (surplus y z s)
+      ≡ 3 * (Y D * G D) + 2 * (Y D * G D * S D) + Y D * Z D * Z D * S D + Y D * Z D * S D + ((y * Z D + z) * S D + s)
+  pub ofSpinshort : (y z s : ℕ) → columnNumber D (spinshort y z s)
+      ≡ 3 * (Y D * G D) + 2 * (Y D * G D * S D) + Y D * Z D * Z D * S D + 2 * (Y D * Z D * S D) + ((y * Z D + z) * S D + s)
+  pub ofFirmshort : (y z : ℕ) → columnNumber D (firmshort y z)
+      ≡ 3 * (Y D * G D) + 2 * (Y D * G D * S D) + Y D * Z D * Z D * S D + 3 * (Y D * Z D * S D) + (y * Z D + z)
+
+-- the peak is the largest Demand of the year and zone: none is above it, and it is one of them
+pub record IsPeak (D : Data) (y z : ℕ) : Type 0 where
+  pub highest : (s : ℕ) → s < S D → demand D y z s ≤ peak D y z
+  pub reached : 0 < S D → (s : ℕ) × (s < S D) × (demand D y z s ≡ peak D y z)
