@@ -29,17 +29,9 @@ use Rattle.model.specs.Calls.{certificate, checkFault, certifyFault, cos
 use Rattle.model.specs.Rival.{Rival, Bounds, Binds}
 use Rattle.model.specs.Claims.{Demand3, WholeGap}
 use Rattle.model.proofs.Within.{inside}
+use Rattle.model.proofs.Sound.{passed, both}
 
--- what passed tests say
-passed : (b : Bool) (r : Refusal) → unless b r ≡ fine → b ≡ true
-unfolding unless
-passed true r e = refl
-passed false r e = fault-fine e
-
-both : (a b : Bool) → (a && b) ≡ true → (a ≡ true) × (b ≡ true)
-both true b e = (refl, e)
-both false b e = let z : _≡_ {A = ℕ} 0 1 = cc in absurd (omega arith)
-
+-- what a row's test and a multiplier's test say
 hold : (e : Bool) (lo hi : ℕ) → holds e lo hi ≡ true → Holds e lo hi
 hold true lo hi t = eqb-true lo hi t
 hold false lo hi t = leb-true lo hi t

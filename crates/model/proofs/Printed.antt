@@ -8,15 +8,16 @@ use Rattle.sums.proofs.Tests.{on-zero}
 use Rattle.sums.proofs.Linears.{spread}
 use Rattle.model.specs.Data.{Data}
 use Rattle.model.specs.Columns.{columnBoxes}
-use Rattle.model.specs.Families.{equation, rowBoxes, row, balance, transfer, spinning, firm, loading, offer, rampDown, rampUpward, minimumLoad, available, profiled, stock, life, fixed, newCapacity, yearlyBuild, fuelUse, capital, zoneEmission, systemEmission}
+use Rattle.model.specs.Families.{equation, equal, familyOf, rowBoxes, row, balance, transfer, spinning, firm, loading, offer, rampDown, rampUpward, minimumLoad, available, profiled, stock, life, fixed, newCapacity, yearlyBuild, fuelUse, capital, zoneEmission, systemEmission}
 use Rattle.model.specs.Printed.{Reads, Printed}
 use Rattle.model.proofs.Within.{inside}
 
 module _ (D : Data) (x : Index → ℕ) where
   -- a row's sums over all columns are the values of its two sides
   reads : (r : Index) → Member (rowBoxes (D .counts)) r
-      → Reads D x r (value (equation D r .positive) x) (value (equation D r .negative) x) (equation D r .plus) (equation D r .minus)
+      → Reads D x r (equal r) (value (equation D r .positive) x) (value (equation D r .negative) x) (equation D r .plus) (equation D r .minus)
   reads r m = record {
+    equality = refl;
     positive = spread (columnBoxes (D .counts)) x (equation D r .positive) (inside D r m .0);
     negative = spread (columnBoxes (D .counts)) x (equation D r .negative) (inside D r m .1);
     adds = refl;
@@ -24,7 +25,7 @@ module _ (D : Data) (x : Index → ℕ) where
   }
 
   pub printed : Printed D x
-  unfolding equation rowBoxes balance transfer spinning firm loading offer rampDown rampUpward minimumLoad available profiled stock life fixed newCapacity yearlyBuild fuelUse capital zoneEmission systemEmission
+  unfolding equation familyOf rowBoxes balance transfer spinning firm loading offer rampDown rampUpward minimumLoad available profiled stock life fixed newCapacity yearlyBuild fuelUse capital zoneEmission systemEmission
   printed = record {
     family1 = λ y z s hy hz hs. reads (row 1 y z 0 s) (omega arith, hy, hz, omega arith, hs);
     family2 = λ y z w s hy hz hw hs. reads (row 2 y z w s) (omega arith, hy, hz, hw, hs);

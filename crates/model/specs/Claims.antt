@@ -5,7 +5,7 @@ use mathlib.Core.List.{List, map}
 use Prim.Native.Nat.{ℕ, _+_, _*_, _≤_, _<_}
 use lib.IntN.{ℤ}
 use Rattle.sums.specs.Sum.{sum}
-use Rattle.sums.specs.Span.{listing, upFrom}
+use Rattle.sums.specs.Span.{listing, upFrom, fine}
 use Rattle.sums.specs.Index.{Box, Index, members, Member, number, count}
 use Rattle.sums.specs.Linear.{coefficient}
 use Rattle.model.specs.declared.Certificate.the-variants.{Issued}
@@ -13,10 +13,11 @@ use Rattle.model.specs.Counts.{Counts}
 use Rattle.model.specs.Data.{Data, read, tableBoxes, demand, peak, Z, G, Y, S}
 use Rattle.model.specs.Columns.{columnBoxes, columnNumber, cap, build, retire, gen, reserve, trans, unmet, surplus, spinshort, firmshort}
 use Rattle.model.specs.Families.{rowBoxes, equation}
-use Rattle.model.specs.Tests.{constants⁺, constants⁻}
+use Rattle.model.specs.Tests.{dataFault, constant⁺, constant⁻, constants⁺, constants⁻}
 use Rattle.model.specs.Calls.{certify}
 use Rattle.model.specs.Rival.{Binds}
 use Rattle.model.specs.Station.{Case, run, cases}
+use Rattle.model.specs.Standing.{Placed}
 
 -- the ten cases of the one-plant station, over certify itself
 abbrev pub TenCases : Type 0
@@ -37,6 +38,15 @@ abbrev pub OneSign : Type 0
 OneSign =
     (D : Data) (r c : Index) → Member (rowBoxes (D .counts)) r
     → coefficient (equation D r .positive) c * coefficient (equation D r .negative) c ≡ 0
+
+-- a row has one constant: of its two parts one is 0, and their difference is what the equation adds less what it takes off
+pub record OneConstant (D : Data) (r : Index) : Type 0 where
+  pub one : constant⁺ D r * constant⁻ D r ≡ 0
+  pub net : constant⁺ D r + equation D r .minus ≡ constant⁻ D r + equation D r .plus
+
+-- data that passes the tests places every plant in a zone and gives it a fuel
+abbrev pub SoundPlaces : Type 0
+SoundPlaces = (l : List ℕ) → dataFault l ≡ fine → Placed (read l)
 
 -- listed in order, the numbers are 0, 1, 2, .. without gaps
 abbrev pub Numbered : List Box → Type 0
