@@ -6,7 +6,8 @@ use Prim.Native.Nat.{ℕ, _+_, _*_, _≤_, _<_}
 use lib.IntN.{ℤ}
 use Rattle.sums.specs.Sum.{sum}
 use Rattle.sums.specs.Span.{listing, upFrom, fine}
-use Rattle.sums.specs.Index.{Box, Index, members, Member, number, count}
+use Rattle.sums.specs.declared.Box.{Box}
+use Rattle.sums.specs.Index.{Index, members, Member, number, count}
 use Rattle.sums.specs.Linear.{coefficient}
 use Rattle.model.specs.declared.Certificate.the-variants.{Issued}
 use Rattle.model.specs.Counts.{Counts}

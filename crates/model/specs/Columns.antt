@@ -3,7 +3,8 @@ use mathlib.Core.List.{List, [], _∷_, map}
 use Prim.Native.Nat.{ℕ}
 use lib.ListN.{getD}
 use Rattle.sums.specs.Span.{Span}
-use Rattle.sums.specs.Index.{Box, Index, index, boxOf, members, number}
+use Rattle.sums.specs.declared.Box.{Box}
+use Rattle.sums.specs.Index.{Index, index, boxOf, members, number}
 use Rattle.model.specs.Counts.{Counts, sets, [yzs], [yzzs], [yz], [ygs], [yg]}
 use Rattle.model.specs.Data.{Data}
 

@@ -1,16 +1,9 @@
 -- The seven counts, and the index sets that tables, columns and rows run over.
 use mathlib.Core.List.{List, [], _∷_}
 use Prim.Native.Nat.{ℕ, _*_}
-use Rattle.sums.specs.Index.{Box, box}
-
-pub record Counts : Type 0 where
-  pub zones : ℕ       -- Z
-  pub plants : ℕ      -- G
-  pub fuels : ℕ       -- F
-  pub seasons : ℕ     -- Q
-  pub days : ℕ        -- D
-  pub hours : ℕ       -- T
-  pub years : ℕ       -- Y
+use Rattle.sums.specs.declared.Box.{Box}
+use Rattle.sums.specs.Index.{box}
+pub use Rattle.model.specs.declared.Counts.{Counts}
 
 -- S = Q·D·T, the slices of a year
 abbrev pub slicesOf : Counts → ℕ

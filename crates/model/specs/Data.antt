@@ -5,7 +5,8 @@ use Prim.Native.Nat.{ℕ, _+_, _*_, _-_, _/_, _%_}
 use lib.Dec.{eqb, leb, ltb}
 use lib.ListN.{length, getD}
 use Rattle.sums.specs.Sum.{sum, largest}
-use Rattle.sums.specs.Index.{Box, Index, index, boxOf, count, number}
+use Rattle.sums.specs.declared.Box.{Box}
+use Rattle.sums.specs.Index.{Index, index, boxOf, count, number}
 use Rattle.model.specs.Counts.{Counts, sets, slicesOf, seasonLength, [yzs], [yz], [yg], [g], [one], [y], [s], [qd], [gq], [gs], [z], [yzzq], [yzz], [yf]}
 
 -- the counts and, for a table's number and four indices, the entry there

@@ -7,7 +7,8 @@ use lib.Dec.{eqb, leb, ltb}
 use lib.ListN.{getD}
 use Rattle.sums.specs.Sum.{sum, on}
 use Rattle.sums.specs.Span.{Span}
-use Rattle.sums.specs.Index.{Box, Index, index, boxOf, members, number}
+use Rattle.sums.specs.declared.Box.{Box}
+use Rattle.sums.specs.Index.{Index, index, boxOf, members, number}
 use Rattle.sums.specs.Linear.{Linear, nothing, _·_, ∑, _⊕_, when}
 use Rattle.model.specs.declared.Family.{Family}
 use Rattle.model.specs.Counts.{Counts, sets, [yzs], [yzzs], [yz], [ygs], [ygq], [yg], [g], [yzf], [one], [y]}

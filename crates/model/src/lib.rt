@@ -1,7 +1,7 @@
 // The types of document 01: the record of counts and sizes, a family of rows, the refusals and the answers.
 
-// The seven counts of the data list and the twenty family sizes that follow from them.
-pub struct Shape {
+// The seven counts of the data list.
+pub struct Counts {
     pub zones: usize,
     pub plants: usize,
     pub fuels: usize,
@@ -9,6 +9,11 @@ pub struct Shape {
     pub days: usize,
     pub hours: usize,
     pub years: usize,
+}
+
+// The seven counts and the twenty family sizes that follow from them, in one record.
+pub struct Shape {
+    pub counts: Counts,
     pub sizes: [usize; 20],
 }
 
