@@ -2,5 +2,8 @@ pub mod Station
 pub mod Members
 pub mod Within
 pub mod Printed
+pub mod OneSign
+pub mod Numbers
+pub mod Peak
 pub mod Sound
 pub mod Demand

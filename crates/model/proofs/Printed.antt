@@ -8,7 +8,7 @@ use Rattle.sums.proofs.Tests.{on-zero}
 use Rattle.sums.proofs.Linears.{spread}
 use Rattle.model.specs.Data.{Data}
 use Rattle.model.specs.Columns.{columnBoxes}
-use Rattle.model.specs.Families.{equation, equal, familyOf, rowBoxes, row, balance, transfer, spinning, firm, loading, offer, rampDown, rampUpward, minimumLoad, available, profiled, stock, life, fixed, newCapacity, yearlyBuild, fuelUse, capital, zoneEmission, systemEmission}
+use Rattle.model.specs.Families.{equation, equal, familyOf, rowBoxes, row}
 use Rattle.model.specs.Printed.{Reads, Printed}
 use Rattle.model.proofs.Within.{inside}
 
@@ -25,7 +25,7 @@ module _ (D : Data) (x : Index → ℕ) where
   }
 
   pub printed : Printed D x
-  unfolding equation familyOf rowBoxes balance transfer spinning firm loading offer rampDown rampUpward minimumLoad available profiled stock life fixed newCapacity yearlyBuild fuelUse capital zoneEmission systemEmission
+  unfolding equation familyOf rowBoxes
   printed = record {
     family1 = λ y z s hy hz hs. reads (row 1 y z 0 s) (omega arith, hy, hz, omega arith, hs);
     family2 = λ y z w s hy hz hw hs. reads (row 2 y z w s) (omega arith, hy, hz, hw, hs);

@@ -5,7 +5,7 @@ use Rattle.sums.specs.Sum.{sum, largest}
 use Rattle.sums.specs.Span.{upto, orElse}
 use Rattle.model.specs.Data.{tableBoxes, placeOf, dataLength, read}
 use Rattle.model.specs.Columns.{columnBoxes}
-use Rattle.model.specs.Families.{familyOf, rowBoxes, balance, transfer, spinning, firm, loading, offer, rampDown, rampUpward, minimumLoad, available, profiled, stock, life, fixed, newCapacity, yearlyBuild, fuelUse, capital, zoneEmission, systemEmission, equation}
+use Rattle.model.specs.Families.{familyOf, rowBoxes, equation}
 use Rattle.model.specs.Prices.{price, cost}
 use Rattle.model.specs.Tests.{unless, headFault, countFault, countsFault, lengthFault, entryFault, entriesFault, dataFault, scaleFault, planLengthFault, constant⁺, constant⁻, above, below, rowFault, rowsFault, costFault, planFault, multiplierCountFault, multiplier, multiplierFault, priced⁺, priced⁻, columnFault, constants⁺, constants⁻, gapFault, gap, multipliersFault, columnsFault, dualFault}
 use Rattle.model.specs.Calls.{checkFault, costOf, certifyFault, gapOf, certify}
@@ -13,5 +13,5 @@ use Rattle.model.specs.Station.{run}
 use Rattle.model.specs.Claims.{TenCases}
 
 pub ten-cases : TenCases
-unfolding run certify certifyFault checkFault costOf gapOf dataFault headFault countsFault countFault lengthFault entriesFault entryFault planFault scaleFault planLengthFault rowsFault rowFault costFault dualFault multiplierCountFault multipliersFault multiplierFault columnsFault columnFault gapFault gap constants⁺ constants⁻ priced⁺ priced⁻ multiplier above below constant⁺ constant⁻ price cost equation familyOf rowBoxes columnBoxes tableBoxes placeOf dataLength read balance transfer spinning firm loading offer rampDown rampUpward minimumLoad available profiled stock life fixed newCapacity yearlyBuild fuelUse capital zoneEmission systemEmission sum largest upto orElse unless limit
+unfolding run certify certifyFault checkFault costOf gapOf dataFault headFault countsFault countFault lengthFault entriesFault entryFault planFault scaleFault planLengthFault rowsFault rowFault costFault dualFault multiplierCountFault multipliersFault multiplierFault columnsFault columnFault gapFault gap constants⁺ constants⁻ priced⁺ priced⁻ multiplier above below constant⁺ constant⁻ price cost equation familyOf rowBoxes columnBoxes tableBoxes placeOf dataLength read sum largest upto orElse unless limit
 ten-cases = refl

@@ -5,10 +5,10 @@ use native.Mathlib.Omega.{arith}
 use lib.ListN.{length}
 use Rattle.sums.specs.Index.{Index, index, Member, boxOf}
 use Rattle.sums.specs.Linear.{Mentions}
-use Rattle.sums.proofs.Lists.{Alls, at-place}
+use Rattle.sums.proofs.Lists.{Alls, at-place, _and_}
 use Rattle.model.specs.Data.{Data, Z, G, Q, Y, S, P}
 use Rattle.model.specs.Columns.{columnBoxes}
-use Rattle.model.specs.Families.{Equation, empty, equation, equations, rowBoxes, sliceOf, balance, transfer, spinning, firm, loading, offer, rampDown, rampUpward, minimumLoad, available, profiled, stock, life, fixed, newCapacity, yearlyBuild, fuelUse, capital, zoneEmission, systemEmission}
+use Rattle.model.specs.Families.{Equation, empty, equation, equations, rowBoxes, sliceOf}
 use Rattle.model.proofs.Members.{Column, in-cap, in-build, in-retire, in-gen, in-reserve, in-trans, in-unmet, in-surplus, in-spinshort, in-firmshort, in-year}
 
 module _ (D : Data) where
@@ -22,29 +22,29 @@ module _ (D : Data) where
       → s < boxOf (rowBoxes (D .counts)) k .slices → Inside e
 
   each-inside : (y i j s : ℕ) → Alls (Bounded y i j s) (equations D y i j s)
-  unfolding rowBoxes balance transfer spinning firm loading offer rampDown rampUpward minimumLoad available profiled stock life fixed newCapacity yearlyBuild fuelUse capital zoneEmission systemEmission
+  unfolding equation rowBoxes
   each-inside y i j s =
-      (λ hy hz _ hs. (((λ g hg _. in-gen D hy hg hs, λ u hu _. in-trans D hy hu hz hs), in-unmet D hy hz hs), (λ u hu _. in-trans D hy hz hu hs, in-surplus D hy hz hs)),
-      (λ hy hz hw hs. (tt, in-trans D hy hz hw hs),
-      (λ hy hz _ hs. ((λ g hg _. in-reserve D hy hg hs, in-spinshort D hy hz hs), (λ u hu _. in-trans D hy hu hz hs, λ g hg _ _. in-gen D hy hg hs)),
-      (λ hy hz _ _. ((λ g hg _. in-cap D hy hg, in-firmshort D hy hz), tt),
-      (λ hy hg _ hs. (in-cap D hy hg, (in-gen D hy hg hs, in-reserve D hy hg hs)),
-      (λ hy hg _ hs. (in-cap D hy hg, in-reserve D hy hg hs),
-      (λ hy hg _ hs. (λ _. (in-cap D hy hg, in-gen D hy hg hs), λ _. in-gen D hy hg (omega arith)),
-      (λ hy hg _ hs. (λ _. (in-cap D hy hg, in-gen D hy hg (omega arith)), λ _. in-gen D hy hg hs),
-      (λ hy hg _ hs. (λ _. in-gen D hy hg hs, λ _. in-cap D hy hg),
-      (λ hy hg _ hq. (in-cap D hy hg, λ p hp. in-gen D hy hg (in-year D s p hq hp)),
-      (λ hy hg _ hs. (λ _. in-cap D hy hg, λ _. in-gen D hy hg hs),
-      (λ hy hg _ _. ((in-cap D hy hg, λ _. in-retire D hy hg), (λ _. in-cap D (omega arith) hg, λ _. in-build D hy hg)),
-      (λ hy hg _ _. (λ _. tt, λ _. in-cap D hy hg),
-      (λ hy hg _ _. (tt, (λ _. in-build D hy hg, λ _. in-retire D hy hg)),
-      (λ _ hg _ _. (λ _. tt, λ _ a ha. in-build D ha hg),
-      (λ hy hg _ _. (λ _. tt, λ _. in-build D hy hg),
-      (λ hy _ _ _. (tt, λ g hg _ _ p hp. in-gen D hy hg hp),
-      (λ _ _ _ _. (tt, λ a ha g hg _. in-cap D ha hg),
-      (λ hy _ _ _. (tt, λ g hg _ p hp. in-gen D hy hg hp),
-      (λ hy _ _ _. (tt, λ g hg p hp. in-gen D hy hg hp),
-      tt))))))))))))))))))))
+      (λ hy hz _ hs. (((λ g hg _. in-gen D hy hg hs, λ u hu _. in-trans D hy hu hz hs), in-unmet D hy hz hs), (λ u hu _. in-trans D hy hz hu hs, in-surplus D hy hz hs)))
+      and (λ hy hz hw hs. (tt, in-trans D hy hz hw hs))
+      and (λ hy hz _ hs. ((λ g hg _. in-reserve D hy hg hs, in-spinshort D hy hz hs), (λ u hu _. in-trans D hy hu hz hs, λ g hg _ _. in-gen D hy hg hs)))
+      and (λ hy hz _ _. ((λ g hg _. in-cap D hy hg, in-firmshort D hy hz), tt))
+      and (λ hy hg _ hs. (in-cap D hy hg, (in-gen D hy hg hs, in-reserve D hy hg hs)))
+      and (λ hy hg _ hs. (in-cap D hy hg, in-reserve D hy hg hs))
+      and (λ hy hg _ hs. (λ _. (in-cap D hy hg, in-gen D hy hg hs), λ _. in-gen D hy hg (omega arith)))
+      and (λ hy hg _ hs. (λ _. (in-cap D hy hg, in-gen D hy hg (omega arith)), λ _. in-gen D hy hg hs))
+      and (λ hy hg _ hs. (λ _. in-gen D hy hg hs, λ _. in-cap D hy hg))
+      and (λ hy hg _ hq. (in-cap D hy hg, λ p hp. in-gen D hy hg (in-year D s p hq hp)))
+      and (λ hy hg _ hs. (λ _. in-cap D hy hg, λ _. in-gen D hy hg hs))
+      and (λ hy hg _ _. ((in-cap D hy hg, λ _. in-retire D hy hg), (λ _. in-cap D (omega arith) hg, λ _. in-build D hy hg)))
+      and (λ hy hg _ _. (λ _. tt, λ _. in-cap D hy hg))
+      and (λ hy hg _ _. (tt, (λ _. in-build D hy hg, λ _. in-retire D hy hg)))
+      and (λ _ hg _ _. (λ _. tt, λ _ a ha. in-build D ha hg))
+      and (λ hy hg _ _. (λ _. tt, λ _. in-build D hy hg))
+      and (λ hy _ _ _. (tt, λ g hg _ _ p hp. in-gen D hy hg hp))
+      and (λ _ _ _ _. (tt, λ a ha g hg _. in-cap D ha hg))
+      and (λ hy _ _ _. (tt, λ g hg _ p hp. in-gen D hy hg hp))
+      and (λ hy _ _ _. (tt, λ g hg p hp. in-gen D hy hg hp))
+      and tt
 
   pub inside : (r : Index) → Member (rowBoxes (D .counts)) r → Inside (equation D r)
   unfolding equation rowBoxes

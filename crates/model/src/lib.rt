@@ -60,3 +60,9 @@ pub enum Certificate {
     Issued(u64, u64),
     Withheld(Refusal),
 }
+
+// A test's outcome: nothing to refuse, or the refusal.
+pub enum Outcome {
+    Fine,
+    Fails(Refusal),
+}

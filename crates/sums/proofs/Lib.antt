@@ -1,7 +1,10 @@
 pub mod Sums
 pub mod Tests
+pub mod Largest
 pub mod Lists
 pub mod Spans
 pub mod Indices
+pub mod Numbering
 pub mod Linears
+pub mod Apart
 pub mod Duality
