@@ -3,10 +3,10 @@
 -- A law's name is FACT-FUNCTION where it gives the function's answer from the fact, and FUNCTION-ANSWER where it gives the fact from the
 -- answer. No law but `limit-least` rests on what number `limit` is. Assumes nothing.
 use mathlib.Core.Path.{_≡_, refl, sym, ap, _∙_}
-use mathlib.Core.Bool.{Bool, true, false}
+use mathlib.Core.Bool.{Bool, true, false, cond}
 use mathlib.Core.Logic.{_⊎_, inl, inr, ⊎-elim}
 use Prim.Native.Nat.{ℕ, _+_, _*_, _-_, _/_, _^_, _<_, _≤_, zero-le}
-use native.Mathlib.Nat.{add-zero, mul-zero, lt-of-lt-of-le, le-mul-of-pos-right, le-div-iff-mul-le, div-lt-iff-lt-mul, eq-zero-or-pos, eq-or-lt-of-le}
+use native.Mathlib.Nat.{add-zero, mul-zero, lt-of-lt-of-le, le-mul-of-pos-right, le-div-iff-mul-le, div-lt-iff-lt-mul, eq-zero-or-pos, eq-or-lt-of-le, mul-comm}
 use native.Mathlib.Omega.{arith}
 use lib.Dec.{leb, ltb}
 use borrow.Author.Tests.{le-leb, lt-leb, leb-true, leb-false, lt-ltb, le-ltb, ltb-true, ltb-false, ne-eqb}
@@ -18,7 +18,7 @@ use Rattle.capped.specs.declared.Order.{Order}
 use Rattle.capped.specs.declared.Order.the-variants.{Less, Equal, Greater, Unknown}
 use Rattle.capped.specs.declared.Balance.{Balance}
 use Rattle.capped.specs.declared.Balance.the-variants.{Is, BelowZero, Unsure}
-use Rattle.capped.specs.Cap.{limit, cap, plus, both, times, order, over, told, netOf}
+use Rattle.capped.specs.Cap.{limit, cap, plus, plusIf, both, times, order, over, told, word, netOf}
 
 pub le-or-lt : (m n : ℕ) → (m ≤ n) ⊎ (n < m)
 le-or-lt m n = go (leb m n) refl
@@ -312,3 +312,24 @@ le-difference m n h p = le-net m 0 n h zero-le (omega arith) (omega arith) ∙ r
 
 pub lt-difference : (m n : ℕ) → n ≤ limit → m < n → netOf (cap m) (cap 0) (cap n) ≡ BelowZero
 lt-difference m n h p = lt-net m 0 n (omega arith) zero-le h (omega arith)
+
+-- A sum in one word, as a factor of a product
+
+pub plus-word : (m f n : ℕ) → plus (cap m) (f * word (cap n)) ≡ cap (m + f * n)
+unfolding word
+plus-word m f n = plus-cap m (f * word (cap n)) ∙ go (capped n)
+  where
+    zero-or-more : (k : ℕ) → limit < k → (f ≡ 0) ⊎ (0 < f) → cap (m + f * (limit + 1)) ≡ cap (m + f * k)
+    zero-or-more k h (inl e) = rw e (ap cap (omega arith))
+    zero-or-more k h (inr p) =
+        cap-high (m + f * (limit + 1)) (omega (arith, le-mul-of-pos-right (limit + 1) p, mul-comm f (limit + 1)))
+        ∙ sym (cap-high (m + f * k) (omega (arith, le-mul-of-pos-right k p, mul-comm f k)))
+    go : {s : Sum} → Capped n s → cap (m + f * word s) ≡ cap (m + f * n)
+    go (low h) = refl
+    go (high h) = zero-or-more n h (eq-zero-or-pos f)
+
+-- A term under a test
+
+pub plus-if : (b : Bool) (m n : ℕ) → plusIf b (cap m) n ≡ cap (m + cond b n 0)
+plus-if true m n = plus-cap m n
+plus-if false m n = ap cap (sym (add-zero m))

@@ -5,7 +5,7 @@
 ghost use mathlib.Core.Path.{_≡_};
 ghost use Prim.Native.Nat.{_+_, _*_};
 ghost use Rattle.capped.specs.declared.Sum.the-variants.{Exact};
-ghost use Rattle.capped.specs.Cap.{cap, plus, both, times, order, over, told, netOf};
+ghost use Rattle.capped.specs.Cap.{cap, plus, plusIf, both, times, order, over, told, word, netOf};
 
 // The largest total that a capped sum holds, 2^62 - 1: `limit` in the specs.
 const LIMIT: u64 = 0x3fff_ffff_ffff_ffff;
@@ -200,4 +200,34 @@ pub fn difference(s: Sum, t: Sum) -> Balance
     ensures { λ r. ⌜ r ≡ netOf s (cap 0) t ⌝ }
 {
     net(s, zero(), t)
+}
+
+// A sum in one word, for a list of sums: one more than the limit where it is over.
+pub fn word_of(s: Sum) -> u64
+    ensures { λ r. ⌜ r ≡ word s ⌝ }
+{
+    match s {
+        Sum::Exact(v) => v,
+        Sum::Over => LIMIT + 1,
+    }
+}
+
+// A product added where a test holds: a loop with this call has one way through.
+pub fn add_product_if(on: bool, s: Sum, a: u64, b: u64) -> Sum
+    ensures { λ r. ⌜ r ≡ plusIf on s (a * b) ⌝ }
+{
+    if on {
+        return add_product(s, a, b);
+    }
+    s
+}
+
+// The same of a product of three.
+pub fn add_product3_if(on: bool, s: Sum, a: u64, b: u64, c: u64) -> Sum
+    ensures { λ r. ⌜ r ≡ plusIf on s (a * b * c) ⌝ }
+{
+    if on {
+        return add_product3(s, a, b, c);
+    }
+    s
 }

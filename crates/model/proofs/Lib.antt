@@ -2,6 +2,7 @@ pub mod Station
 pub mod Members
 pub mod Within
 pub mod Printed
+pub mod Standing
 pub mod OneSign
 pub mod Numbers
 pub mod Peak

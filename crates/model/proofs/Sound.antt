@@ -19,8 +19,10 @@ use Rattle.model.specs.declared.Refusal.the-variants.{Entry}
 use Rattle.model.specs.Data.{Data, Range, within, tables, tableBoxes, read, placeOf, mostCounts, countsOf, all, _to_, zone, fuel, Z, G, F}
 use Rattle.model.specs.Families.{equation}
 use Rattle.model.specs.Tests.{unless, entryFault, entriesFault, dataFault, countsFault, countFault, constant⁺, constant⁻}
+use Rattle.model.specs.declared.Answer.the-variants.{Refused}
+use Rattle.model.specs.Calls.{answer, boardAfter, postFault, post, posted}
 use Rattle.model.specs.Standing.{Placed}
-use Rattle.model.specs.Claims.{OneConstant, SoundPlaces}
+use Rattle.model.specs.Claims.{OneConstant, SoundPlaces, KeptBoard}
 
 -- a test that gave no refusal passed
 pub passed : (b : Bool) (r : Refusal) → unless b r ≡ fine → b ≡ true
@@ -77,3 +79,12 @@ one-side a b =
 pub one-constant : (D : Data) (r : Index) → OneConstant D r
 unfolding constant⁺ constant⁻
 one-constant D r = record { one = one-side (equation D r .plus) (equation D r .minus); net = omega arith }
+
+-- post refuses only where a test gave a refusal
+kept : (f : Fault Refusal) (c : ℕ) (old new : List ℕ) (r : Refusal) → answer f c ≡ Refused r → boardAfter f old new ≡ old
+kept fine c old new r e = let z : _≡_ {A = ℕ} 0 1 = cc in absurd (omega arith)
+kept (fault s) c old new r e = refl
+
+pub kept-board : KeptBoard
+unfolding post posted
+kept-board l N plan y board start r e = kept (postFault l N plan y board start) _ board _ r e

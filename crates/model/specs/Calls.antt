@@ -17,23 +17,36 @@ use Rattle.model.specs.Columns.{entries, columnNumber, gen}
 use Rattle.model.specs.Prices.{cost}
 use Rattle.model.specs.Tests.{dataFault, planFault, dualFault, gap, boardFault}
 
+abbrev pub code : ℕ → ℕ → ℕ → Code
+code n a b = record { number = n; first = a; second = b }
+
 -- document 01's number and place of each refusal
 unfoldable pub codeOf : Refusal → Code
-codeOf (Shape i) = record { number = 1; place = i }
-codeOf (DataLength n) = record { number = 2; place = n }
-codeOf (Entry i) = record { number = 3; place = i }
-codeOf Scale = record { number = 4; place = 0 }
-codeOf (PlanLength n) = record { number = 5; place = n }
-codeOf (RowOffScale r) = record { number = 6; place = r }
-codeOf (Broken r) = record { number = 7; place = r }
-codeOf CostOffScale = record { number = 8; place = 0 }
-codeOf (MultiplierCount n) = record { number = 9; place = n }
-codeOf (Multiplier r) = record { number = 10; place = r }
-codeOf (ColumnOffScale c) = record { number = 11; place = c }
-codeOf (Underpriced c) = record { number = 12; place = c }
-codeOf GapOffScale = record { number = 13; place = 0 }
-codeOf Board = record { number = 14; place = 0 }
-codeOf (Frame n) = record { number = 15; place = n }
+codeOf (Shape i) = code 1 i 0
+codeOf (DataLength n) = code 2 n 0
+codeOf (Entry i) = code 3 i 0
+codeOf Scale = code 4 0 0
+codeOf (PlanLength n) = code 5 n 0
+codeOf (RowOffScale r) = code 6 r 0
+codeOf (Broken r) = code 7 r 0
+codeOf CostOffScale = code 8 0 0
+codeOf (MultiplierCount n) = code 9 n 0
+codeOf (Multiplier r) = code 10 r 0
+codeOf (ColumnOffScale c) = code 11 c 0
+codeOf (Underpriced c) = code 12 c 0
+codeOf GapOffScale = code 13 0 0
+codeOf Board = code 14 0 0
+codeOf (Frame n) = code 15 n 0
+
+-- an answer of check or post: 0 and the cost, or the refusal
+unfoldable pub answerCode : Answer → Code
+answerCode (Accepted c) = code 0 c 0
+answerCode (Refused r) = codeOf r
+
+-- an answer of certify: 0, the cost and the gap, or the refusal
+unfoldable pub certificateCode : Certificate → Code
+certificateCode (Issued c g) = code 0 c g
+certificateCode (Withheld r) = codeOf r
 
 abbrev pub answer : Fault Refusal → ℕ → Answer
 answer fine c = Accepted c

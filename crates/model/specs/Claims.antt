@@ -9,13 +9,15 @@ use Rattle.sums.specs.Span.{listing, upFrom, fine}
 use Rattle.sums.specs.declared.Box.{Box}
 use Rattle.sums.specs.Index.{Index, members, Member, number, count}
 use Rattle.sums.specs.Linear.{coefficient}
+use Rattle.model.specs.declared.Refusal.{Refusal}
+use Rattle.model.specs.declared.Answer.the-variants.{Refused}
 use Rattle.model.specs.declared.Certificate.the-variants.{Issued}
 use Rattle.model.specs.Counts.{Counts}
 use Rattle.model.specs.Data.{Data, read, tableBoxes, demand, peak, Z, G, Y, S}
 use Rattle.model.specs.Columns.{columnBoxes, columnNumber, cap, build, retire, gen, reserve, trans, unmet, surplus, spinshort, firmshort}
 use Rattle.model.specs.Families.{rowBoxes, equation}
 use Rattle.model.specs.Tests.{dataFault, constant⁺, constant⁻, constants⁺, constants⁻}
-use Rattle.model.specs.Calls.{certify}
+use Rattle.model.specs.Calls.{certify, post, posted}
 use Rattle.model.specs.Rival.{Binds}
 use Rattle.model.specs.Station.{Case, run, cases}
 use Rattle.model.specs.Standing.{Placed}
@@ -33,6 +35,12 @@ abbrev pub WholeGap : Type 0
 WholeGap =
     (l : List ℕ) (N : ℕ) (plan : List ℕ) (ms : List ℤ) (c g : ℕ) → certify l N plan ms ≡ Issued c g
     → g + N * constants⁻ (read l) ms ≡ c + N * constants⁺ (read l) ms
+
+-- on a refusal post leaves the board as it was
+abbrev pub KeptBoard : Type 0
+KeptBoard =
+    (l : List ℕ) (N : ℕ) (plan : List ℕ) (y : ℕ) (board : List ℕ) (start : ℕ) (r : Refusal)
+    → post l N plan y board start ≡ Refused r → posted l N plan y board start ≡ board
 
 -- no column stands in one row with both signs, so the two sums are those of one coefficient per column
 abbrev pub OneSign : Type 0

@@ -14,7 +14,8 @@ abbrev pub seasonLength : Counts → ℕ
 seasonLength c = c .days * c .hours
 
 -- The index sets by code: how many years, first indices, second indices and slices each has.
--- A plant or a zone is a first index; a second zone, a fuel or a day is a second index; a season of a row stands in the slice's place.
+-- A plant or a zone is a first index; a second zone or a fuel is a second index; a season stands in the slice's place.
+-- The minimum-load days alone have the season first and the day second.
 abbrev pub sets : Counts → List Box
 sets c =
     box (c .years) (c .zones) 1 (slicesOf c)                -- 0: y, z, s

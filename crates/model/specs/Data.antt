@@ -177,7 +177,7 @@ byPlant f = record { set = [g]; range = λ D y g j s. f D g }
 abbrev pub tables : List Table
 tables =
     all [y] (0 to 1000)                                                     -- 0 return rate R, ‰
-    ∷ all [y] (1 to 20)                                                     -- 1 weight
+    ∷ all [y] (1 to 20)                                                     -- 1 weight V
     ∷ all [s] (0 to 8784)                                                   -- 2 duration Dur, hours
     ∷ all [qd] (0 to 1)                                                     -- 3 minimum-load day
     ∷ byPlant (λ D g. 0 to Z D - 1)                            -- 4 zone, below Z

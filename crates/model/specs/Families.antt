@@ -60,9 +60,12 @@ rowNumber D r = number (rowBoxes (D .counts)) r
 abbrev pub row : ℕ → ℕ → ℕ → ℕ → ℕ → Index
 row k y i j s = index (k - 1) y i j s
 
--- whether a row is an equality
+-- a row's family, counted from 0, and whether the row is an equality
+abbrev pub familyIn : Index → ℕ
+familyIn (index k y i j s) = k
+
 abbrev pub equal : Index → Bool
-equal (index k y i j s) = familyOf k .equal
+equal r = familyOf (familyIn r) .equal
 
 -- A row: its positive and its negative terms, and what its constant adds and takes off.
 pub record Equation : Type 0 where
@@ -102,6 +105,7 @@ module _ (D : Data) where
   seasonSum q f = sum (P D) (λ i. f (sliceOf q i))
 
   -- 1 (14): 1000·Σ gen in z − 1000·Σ trans[z,z2] + Σ (1000 − Loss[z2,z])·trans[z2,z] + unmet − surplus = Demand·EE
+  -- (a difference here is cut off at 0; Loss is at most 1000, as refusal 3 has it)
   unfoldable pub balance : ℕ → ℕ → ℕ → Equation
   balance y z s = record {
     positive = inZone z (λ g. 1000 · gen y g s) ⊕ others z (λ u. (1000 - loss D y u z) · trans y u z s) ⊕ 1 · unmet y z s;

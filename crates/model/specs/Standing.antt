@@ -43,6 +43,7 @@ module _ (D : Data) where
   transIn⁺ y z w s = when (not (eqb z w)) ((1000 - loss D y z w) · row 1 y w 0 s)
 
   unfoldable pub standing⁺ : Index → Linear
+  unfolding capIn⁺ retireIn⁺ genIn⁺ reserveIn⁺ transIn⁺
   standing⁺ (index k y i j s) =
       getD (capIn⁺ y i ∷ nothing ∷ retireIn⁺ y i ∷ genIn⁺ y i s ∷ reserveIn⁺ y i s ∷ transIn⁺ y i j s ∷ 1 · row 1 y i 0 s ∷ nothing ∷ 1 · row 3 y i 0 s ∷ 1 · row 4 y i 0 0 ∷ [])
       k nothing
@@ -84,6 +85,7 @@ module _ (D : Data) where
   transIn⁻ y z w s = when (not (eqb z w)) (1000 · row 1 y z 0 s) ⊕ 1 · row 2 y z w s ⊕ when (not (eqb z w)) (1000 · row 3 y w 0 s)
 
   unfoldable pub standing⁻ : Index → Linear
+  unfolding capIn⁻ buildIn⁻ retireIn⁻ genIn⁻ reserveIn⁻ transIn⁻
   standing⁻ (index k y i j s) =
       getD (capIn⁻ y i ∷ buildIn⁻ y i ∷ retireIn⁻ y i ∷ genIn⁻ y i s ∷ reserveIn⁻ y i s ∷ transIn⁻ y i j s ∷ nothing ∷ 1 · row 1 y i 0 s ∷ nothing ∷ nothing ∷ [])
       k nothing

@@ -3,10 +3,8 @@ use mathlib.Core.List.{List, [], _∷_, _++_, map}
 use Prim.Native.Nat.{ℕ}
 use lib.IntN.{ℤ, pos}
 use lib.ListN.{replicate}
-use Rattle.model.specs.declared.Certificate.{Certificate}
-use Rattle.model.specs.declared.Certificate.the-variants.{Issued, Withheld}
-use Rattle.model.specs.declared.Refusal.the-variants.{Broken, Underpriced}
-use Rattle.model.specs.Calls.{certify}
+use Rattle.model.specs.declared.Code.{Code}
+use Rattle.model.specs.Calls.{certify, certificateCode, code}
 
 -- All counts 1. Nonzero: R 1000, weight 1, Dur 100, GenCap 10, year 2, both ramps, CapCredit, Availability, Profile 1000, GenCost 50000,
 -- Demand 8, EE 1000, PRM 100, VOLL 1000
@@ -33,7 +31,7 @@ pub record Case : Type 0 where
   pub unmet : ℕ
   pub surplus : ℕ
   pub multiplier : ℕ
-  pub outcome : Certificate
+  pub outcome : Code
 
 abbrev pub planOf : Case → List ℕ
 planOf k = k .cap ∷ 0 ∷ 0 ∷ k .gen ∷ 0 ∷ 0 ∷ k .unmet ∷ k .surplus ∷ 0 ∷ 0 ∷ []
@@ -41,23 +39,32 @@ planOf k = k .cap ∷ 0 ∷ 0 ∷ k .gen ∷ 0 ∷ 0 ∷ k .unmet ∷ k .surplus
 abbrev pub multipliersOf : Case → List ℤ
 multipliersOf k = pos (k .multiplier) ∷ replicate 19 (pos 0)
 
-unfoldable pub run : Case → Certificate
-run k = certify station (k .scale) (planOf k) (multipliersOf k)
+-- what certify answers, in document 01's numbers
+unfoldable pub run : Case → Code
+run k = certificateCode (certify station (k .scale) (planOf k) (multipliersOf k))
 
-abbrev pub case : ℕ → ℕ → ℕ → ℕ → ℕ → ℕ → Certificate → Case
+abbrev pub accepted : ℕ → ℕ → Code
+accepted c g = code 0 c g
+
+abbrev pub _at_ : ℕ → ℕ → Code
+n at p = code n p 0
+
+infix 40 _at_
+
+abbrev pub case : ℕ → ℕ → ℕ → ℕ → ℕ → ℕ → Code → Case
 case n c g u v m o = record { scale = n; cap = c; gen = g; unmet = u; surplus = v; multiplier = m; outcome = o }
 
 -- N, cap, gen, unmet, surplus, m; outcome
 abbrev pub cases : List Case
 cases =
-    case 1 10 8 0 0 5000000 (Issued 40000000000 0)
-    ∷ case 1 10 8 0 0 0 (Issued 40000000000 40000000000)
-    ∷ case 1 10 8 0 0 4000000 (Issued 40000000000 8000000000)
-    ∷ case 1 10 8 0 0 5000001 (Withheld (Underpriced 3))
-    ∷ case 2 20 16 0 0 5000000 (Issued 80000000000 0)
-    ∷ case 1 10 7 1000 0 5000000 (Issued 135000000000 95000000000)
-    ∷ case 1 10 7 999 0 5000000 (Withheld (Broken 0))
-    ∷ case 1 10 9 0 1000 5000000 (Issued 45000000000 5000000000)
-    ∷ case 1 10 11 0 3000 5000000 (Withheld (Broken 4))
-    ∷ case 1 11 8 0 0 5000000 (Withheld (Broken 11))
+    case 1 10 8 0 0 5000000 (accepted 40000000000 0)
+    ∷ case 1 10 8 0 0 0 (accepted 40000000000 40000000000)
+    ∷ case 1 10 8 0 0 4000000 (accepted 40000000000 8000000000)
+    ∷ case 1 10 8 0 0 5000001 (12 at 3)
+    ∷ case 2 20 16 0 0 5000000 (accepted 80000000000 0)
+    ∷ case 1 10 7 1000 0 5000000 (accepted 135000000000 95000000000)
+    ∷ case 1 10 7 999 0 5000000 (7 at 0)
+    ∷ case 1 10 9 0 1000 5000000 (accepted 45000000000 5000000000)
+    ∷ case 1 10 11 0 3000 5000000 (7 at 4)
+    ∷ case 1 11 8 0 0 5000000 (7 at 11)
     ∷ []

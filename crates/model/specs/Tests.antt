@@ -14,7 +14,7 @@ use Rattle.model.specs.declared.Refusal.{Refusal}
 use Rattle.model.specs.declared.Refusal.the-variants.{Shape, DataLength, Entry, Scale, PlanLength, RowOffScale, Broken, CostOffScale, MultiplierCount, Multiplier, ColumnOffScale, Underpriced, GapOffScale, Board}
 use Rattle.model.specs.Data.{Data, Range, within, Table, tables, tableBoxes, countsOf, mostCounts, placeOf, dataLength, read, Y, G, S, _to_, all}
 use Rattle.model.specs.Columns.{columns, columnNumber, columnBoxes, entries}
-use Rattle.model.specs.Families.{Equation, equation, equal, rows, rowNumber, rowBoxes}
+use Rattle.model.specs.Families.{Equation, equation, equal, familyIn, rows, rowNumber, rowBoxes}
 use Rattle.model.specs.Prices.{price, cost}
 
 -- the largest sum that passes is `limit`, 2^62 − 1, of the capped sums; the largest scale; the largest multiplier

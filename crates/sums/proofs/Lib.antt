@@ -1,10 +1,12 @@
 pub mod Sums
 pub mod Tests
+pub mod Collapse
 pub mod Largest
 pub mod Lists
 pub mod Spans
 pub mod Indices
 pub mod Numbering
+pub mod ByKind
 pub mod Linears
 pub mod Apart
 pub mod Duality

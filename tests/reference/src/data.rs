@@ -1,0 +1,324 @@
+//! Document 01, "The data": the tables in order, their index sets and ranges,
+//! and the tests of refusals 1, 2 and 3.
+
+use crate::refusal::{Refusal, DATA_LENGTH, ENTRY, SHAPE};
+use crate::shape::{Axis, Shape, COUNTS};
+
+/// The tables in the order of the data list. Requests append at the end.
+#[derive(Clone, Copy, Debug, PartialEq, Eq)]
+pub enum Table {
+    ReturnRate,
+    Weight,
+    Duration,
+    MinimumLoadDay,
+    Zone,
+    Fuel,
+    Kind,
+    Vre,
+    GenCap,
+    Year,
+    MaxNewCap,
+    OverLoad,
+    ResOffer,
+    RampDn,
+    RampUp,
+    MinCapFac,
+    CapCredit,
+    HeatRate,
+    Emission,
+    ResCost,
+    Availability,
+    Profile,
+    Annuity,
+    FixedOm,
+    GenCost,
+    Demand,
+    Ee,
+    SRes,
+    Prm,
+    Tl,
+    Loss,
+    ZoneCap,
+    SystemCap,
+    Tax,
+    MaxFuel,
+    BuildLimit,
+    Voll,
+    SurplusPenalty,
+    ResVoll,
+    SresVoll,
+    Err,
+    MaxCapital,
+}
+
+/// The range of a table's entries. The last three depend on the plant's kind
+/// or on the entry's own indices (reading 5).
+#[derive(Clone, Copy, Debug, PartialEq, Eq)]
+pub enum Range {
+    /// No range named: all 32 bits.
+    Any,
+    Within(u32, u32),
+    BelowZones,
+    BelowFuels,
+    /// GenCap: 0 for a candidate.
+    ZeroForCandidate,
+    /// MaxNewCap: 0 for an existing plant.
+    ZeroForExisting,
+    /// Existing: retirement 2..Y+1; candidate: commission 1..Y.
+    YearByKind,
+    /// TL: 0 where z = z2.
+    ZeroWithinZone,
+}
+
+pub struct TableEntry {
+    pub table: Table,
+    pub name: &'static str,
+    pub axes: &'static [Axis],
+    pub range: Range,
+}
+
+const Y: &[Axis] = &[Axis::Year];
+const S: &[Axis] = &[Axis::Slice];
+const QD: &[Axis] = &[Axis::Season, Axis::Day];
+const G: &[Axis] = &[Axis::Plant];
+const GQ: &[Axis] = &[Axis::Plant, Axis::Season];
+const GS: &[Axis] = &[Axis::Plant, Axis::Slice];
+const YG: &[Axis] = &[Axis::Year, Axis::Plant];
+const YZS: &[Axis] = &[Axis::Year, Axis::Zone, Axis::Slice];
+const YZ: &[Axis] = &[Axis::Year, Axis::Zone];
+const Z: &[Axis] = &[Axis::Zone];
+const YZZQ: &[Axis] = &[Axis::Year, Axis::Zone, Axis::OtherZone, Axis::Season];
+const YZZ: &[Axis] = &[Axis::Year, Axis::Zone, Axis::OtherZone];
+const YF: &[Axis] = &[Axis::Year, Axis::Fuel];
+const SINGLE: &[Axis] = &[];
+
+const THOUSANDTHS: Range = Range::Within(0, 1000);
+const FLAG: Range = Range::Within(0, 1);
+
+const fn entry(
+    table: Table,
+    name: &'static str,
+    axes: &'static [Axis],
+    range: Range,
+) -> TableEntry {
+    TableEntry {
+        table,
+        name,
+        axes,
+        range,
+    }
+}
+
+pub const TABLE_COUNT: usize = 42;
+
+/// The data list after its seven counts.
+pub const TABLES: [TableEntry; TABLE_COUNT] = [
+    entry(Table::ReturnRate, "R", Y, THOUSANDTHS),
+    entry(Table::Weight, "V", Y, Range::Within(1, 20)),
+    entry(Table::Duration, "Dur", S, Range::Within(0, 8784)),
+    entry(Table::MinimumLoadDay, "minimum-load day", QD, FLAG),
+    entry(Table::Zone, "zone", G, Range::BelowZones),
+    entry(Table::Fuel, "fuel", G, Range::BelowFuels),
+    entry(Table::Kind, "kind", G, FLAG),
+    entry(Table::Vre, "VRE", G, FLAG),
+    entry(Table::GenCap, "GenCap", G, Range::ZeroForCandidate),
+    entry(Table::Year, "year", G, Range::YearByKind),
+    entry(Table::MaxNewCap, "MaxNewCap", G, Range::ZeroForExisting),
+    entry(Table::OverLoad, "OverLoad", G, THOUSANDTHS),
+    entry(Table::ResOffer, "ResOffer", G, THOUSANDTHS),
+    entry(Table::RampDn, "RampDn", G, THOUSANDTHS),
+    entry(Table::RampUp, "RampUp", G, THOUSANDTHS),
+    entry(Table::MinCapFac, "MinCapFac", G, THOUSANDTHS),
+    entry(Table::CapCredit, "CapCredit", G, THOUSANDTHS),
+    entry(Table::HeatRate, "HeatRate", G, Range::Within(0, 100_000)),
+    entry(Table::Emission, "E", G, Range::Within(0, 10_000)),
+    entry(Table::ResCost, "ResCost", G, Range::Any),
+    entry(Table::Availability, "Availability", GQ, THOUSANDTHS),
+    entry(Table::Profile, "Profile", GS, THOUSANDTHS),
+    entry(Table::Annuity, "Annuity", YG, Range::Any),
+    entry(Table::FixedOm, "FixedOM", YG, Range::Any),
+    entry(Table::GenCost, "GenCost", YG, Range::Any),
+    entry(Table::Demand, "Demand", YZS, Range::Any),
+    entry(Table::Ee, "EE", YZ, Range::Within(0, 5000)),
+    entry(Table::SRes, "SRes", YZ, Range::Any),
+    entry(Table::Prm, "PRM", Z, THOUSANDTHS),
+    entry(Table::Tl, "TL", YZZQ, Range::ZeroWithinZone),
+    entry(Table::Loss, "Loss", YZZ, THOUSANDTHS),
+    entry(Table::ZoneCap, "zone cap", YZ, Range::Any),
+    entry(Table::SystemCap, "system cap", Y, Range::Any),
+    entry(Table::Tax, "Tax", Y, Range::Within(0, 100_000)),
+    entry(Table::MaxFuel, "MaxFuel", YF, Range::Any),
+    entry(Table::BuildLimit, "BuildLimit", Y, Range::Any),
+    entry(Table::Voll, "VOLL", SINGLE, Range::Any),
+    entry(Table::SurplusPenalty, "SurplusPenalty", SINGLE, Range::Any),
+    entry(Table::ResVoll, "RESVoLL", SINGLE, Range::Any),
+    entry(Table::SresVoll, "SRESVoLL", SINGLE, Range::Any),
+    entry(Table::Err, "Err", SINGLE, THOUSANDTHS),
+    entry(Table::MaxCapital, "MaxCapital", SINGLE, Range::Any),
+];
+
+/// Where each table starts in the data list.
+#[derive(Clone, Debug)]
+pub struct DataLayout {
+    pub shape: Shape,
+    starts: [usize; TABLE_COUNT],
+    length: usize,
+}
+
+impl DataLayout {
+    pub fn new(shape: Shape) -> DataLayout {
+        let mut starts = [0; TABLE_COUNT];
+        let mut next = COUNTS.len();
+        for (start, entry) in starts.iter_mut().zip(&TABLES) {
+            *start = next;
+            next += shape.size(entry.axes);
+        }
+        DataLayout {
+            shape,
+            starts,
+            length: next,
+        }
+    }
+
+    /// The length that the counts give.
+    pub fn length(&self) -> usize {
+        self.length
+    }
+
+    /// The index of an entry in the data list.
+    pub fn index(&self, table: Table, indices: &[usize]) -> usize {
+        let entry = &TABLES[table as usize];
+        self.starts[table as usize] + self.shape.place(entry.axes, indices)
+    }
+
+    /// The table and indices at an index of the data list past the counts.
+    pub fn locate(&self, index: usize) -> Option<(Table, Vec<usize>)> {
+        if index < COUNTS.len() || index >= self.length {
+            return None;
+        }
+        let last = self.starts.iter().rposition(|&start| start <= index)?;
+        let entry = &TABLES[last];
+        let indices = self.shape.indices(entry.axes, index - self.starts[last]);
+        Some((entry.table, indices))
+    }
+}
+
+/// A data list that passed the tests of refusals 1, 2 and 3.
+#[derive(Clone, Debug)]
+pub struct Data<'a> {
+    pub shape: Shape,
+    layout: DataLayout,
+    list: &'a [u32],
+}
+
+/// The counts of a data list: refusal 2 when there are under 7 numbers, then
+/// refusal 1.
+pub fn read_shape(list: &[u32]) -> Result<Shape, Refusal> {
+    if list.len() < COUNTS.len() {
+        return Err(Refusal::at(DATA_LENGTH, COUNTS.len()));
+    }
+    let mut counts = [0; COUNTS.len()];
+    for (index, &(_, largest)) in COUNTS.iter().enumerate() {
+        if list[index] < 1 || list[index] > largest {
+            return Err(Refusal::at(SHAPE, index));
+        }
+        counts[index] = list[index] as usize;
+    }
+    Ok(Shape::new(counts))
+}
+
+impl<'a> Data<'a> {
+    /// The tests of refusals 2, 1, 2 and 3, in that order.
+    pub fn read(list: &'a [u32]) -> Result<Data<'a>, Refusal> {
+        let shape = read_shape(list)?;
+        let layout = DataLayout::new(shape);
+        if list.len() != layout.length() {
+            return Err(Refusal::at(DATA_LENGTH, layout.length()));
+        }
+        let data = Data {
+            shape,
+            layout,
+            list,
+        };
+        data.test_entries()?;
+        Ok(data)
+    }
+
+    fn test_entries(&self) -> Result<(), Refusal> {
+        for entry in &TABLES {
+            for place in 0..self.shape.size(entry.axes) {
+                let indices = self.shape.indices(entry.axes, place);
+                let index = self.layout.index(entry.table, &indices);
+                if !self.in_range(entry.range, &indices, self.list[index]) {
+                    return Err(Refusal::at(ENTRY, index));
+                }
+            }
+        }
+        Ok(())
+    }
+
+    /// The kind table lies before the tables whose ranges depend on it, so it
+    /// has been tested when they are.
+    fn in_range(&self, range: Range, indices: &[usize], value: u32) -> bool {
+        let years = self.shape.years as u32;
+        match range {
+            Range::Any => true,
+            Range::Within(least, largest) => least <= value && value <= largest,
+            Range::BelowZones => (value as usize) < self.shape.zones,
+            Range::BelowFuels => (value as usize) < self.shape.fuels,
+            Range::ZeroForCandidate => !self.is_candidate(indices[0]) || value == 0,
+            Range::ZeroForExisting => self.is_candidate(indices[0]) || value == 0,
+            Range::YearByKind if self.is_candidate(indices[0]) => 1 <= value && value <= years,
+            Range::YearByKind => 2 <= value && value <= years + 1,
+            Range::ZeroWithinZone => indices[1] != indices[2] || value == 0,
+        }
+    }
+
+    /// An entry, wide enough for every product of document 01.
+    pub fn at(&self, table: Table, indices: &[usize]) -> i128 {
+        i128::from(self.list[self.layout.index(table, indices)])
+    }
+
+    pub fn single(&self, table: Table) -> i128 {
+        self.at(table, &[])
+    }
+
+    pub fn is_candidate(&self, plant: usize) -> bool {
+        self.at(Table::Kind, &[plant]) == 1
+    }
+
+    pub fn is_vre(&self, plant: usize) -> bool {
+        self.at(Table::Vre, &[plant]) == 1
+    }
+
+    pub fn zone_of(&self, plant: usize) -> usize {
+        self.at(Table::Zone, &[plant]) as usize
+    }
+
+    pub fn fuel_of(&self, plant: usize) -> usize {
+        self.at(Table::Fuel, &[plant]) as usize
+    }
+
+    pub fn plants_in(&self, zone: usize) -> impl Iterator<Item = usize> + '_ {
+        (0..self.shape.plants).filter(move |&plant| self.zone_of(plant) == zone)
+    }
+
+    /// The zones z2 that differ from z (reading 2).
+    pub fn zones_beside(&self, zone: usize) -> impl Iterator<Item = usize> {
+        (0..self.shape.zones).filter(move |&other| other != zone)
+    }
+
+    /// W = R·V.
+    pub fn year_weight(&self, year: usize) -> i128 {
+        self.at(Table::ReturnRate, &[year]) * self.at(Table::Weight, &[year])
+    }
+
+    pub fn duration(&self, slice: usize) -> i128 {
+        self.at(Table::Duration, &[slice])
+    }
+
+    pub fn is_minimum_load_day(&self, slice: usize) -> bool {
+        let day = [self.shape.season_of(slice), self.shape.day_of(slice)];
+        self.at(Table::MinimumLoadDay, &day) == 1
+    }
+}

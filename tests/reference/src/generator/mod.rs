@@ -1,0 +1,111 @@
+//! Seeded inputs for the three calls, the program and demand 3. Everything
+//! here is a function of a `u64` seed.
+//!
+//! - `sound` makes data and a plan that check accepts, limits near what the
+//!   plan uses; `multipliers` adds multipliers that certify accepts;
+//! - `optimal` makes plans in merit order with multipliers of gap 0;
+//! - `damage` changes a sound case so that a chosen refusal is met;
+//! - `extremes` are fixed cases at and just past 2^62 − 1;
+//! - `frames` writes a case as the program's text, sound and damaged;
+//! - `rivals` makes other feasible plans over the same data.
+
+pub mod damage;
+pub mod draft;
+pub mod extremes;
+pub mod frames;
+pub mod multipliers;
+pub mod needed;
+pub mod optimal;
+pub mod random;
+pub mod rivals;
+pub mod sound;
+
+use crate::shape::Shape;
+use damage::{damage, Damage, Expected};
+use draft::{Case, Draft};
+use random::Random;
+
+/// A case for all three calls, with what is known of its answer.
+#[derive(Clone, Debug)]
+pub struct Generated {
+    pub label: String,
+    pub case: Case,
+    /// Known by construction; none where the outcome is left to the law.
+    pub expected: Option<Expected>,
+}
+
+/// A small shape: thousands of cases a minute. One in ten has all counts 1,
+/// one in forty is of middle size.
+pub fn shape(random: &mut Random) -> Shape {
+    if random.chance(1, 10) {
+        return Shape::new([1; 7]);
+    }
+    if random.chance(1, 40) {
+        return Shape::new([4, 8, 3, 2, 2, 8, 4]);
+    }
+    let largest = [3, 5, 2, 2, 2, 4, 4];
+    Shape::new(largest.map(|count| random.between(1, count) as usize))
+}
+
+/// N: often 1 or 1000, otherwise anything between.
+pub fn scale(random: &mut Random) -> u32 {
+    match random.below(6) {
+        0 => 1,
+        1 => 1000,
+        2 => *random.pick(&[2, 3, 10, 100, 999]),
+        _ => random.between(1, 1000) as u32,
+    }
+}
+
+/// A sound case of a given shape: check, certify and post accept it. The work
+/// is about linear in the number of rows and columns.
+pub fn sound_case(shape: Shape, seed: u64) -> Case {
+    sound_draft(&mut Random::new(seed), shape).case
+}
+
+pub(crate) fn sound_draft(random: &mut Random, shape: Shape) -> Draft {
+    let scale = scale(random);
+    let mut draft = sound::draft(random, shape, scale);
+    multipliers::draw(random, &mut draft);
+    draft.draw_board(random);
+    draft
+}
+
+/// A case for all three calls, sound or damaged.
+pub fn case(seed: u64) -> Generated {
+    let mut random = Random::new(seed);
+    if random.chance(1, 4) {
+        let shape = shape(&mut random);
+        return sound(sound_draft(&mut random, shape), "sound");
+    }
+    if random.chance(1, 8) {
+        return sound(optimal::draft(&mut random), "optimal");
+    }
+    let all = Damage::all();
+    let chosen = *random.pick(&all);
+    damaged_case(&mut random, chosen)
+}
+
+fn sound(draft: Draft, label: &str) -> Generated {
+    Generated {
+        label: label.to_string(),
+        case: draft.case,
+        expected: None,
+    }
+}
+
+/// A case with a chosen damage. Not every sound case can take every damage (a
+/// ramp needs two hours), so sound cases are drawn until one can.
+pub fn damaged_case(random: &mut Random, chosen: Damage) -> Generated {
+    loop {
+        let shape = shape(random);
+        let draft = sound_draft(random, shape);
+        if let Some((case, expected)) = damage(random, draft, chosen) {
+            return Generated {
+                label: format!("{chosen:?}"),
+                case,
+                expected,
+            };
+        }
+    }
+}

@@ -1,0 +1,292 @@
+//! Rival plans of demand 3: other plans over the same data that meet all the
+//! equations, at other scales, with entries that may be wide.
+//!
+//! Each is made from the sound plan by shares that no limit of families 5 to 20
+//! forbids:
+//!
+//! - a candidate may be built to a share of the plan, with its output and
+//!   reserve; an existing plant may keep a share of its capacity after the
+//!   first year, the rest retiring in the second;
+//! - a plant's output may lie anywhere between the plan's and the least that its
+//!   minimum load asks, its reserve and every link's transfers may shrink;
+//! - unmet, surplus, spinshort and firmshort then take up the difference.
+
+use super::draft::{Case, Draft};
+use super::random::Random;
+use crate::columns::Column;
+use crate::data::{read_shape, Table};
+
+/// A rival plan in Mths.
+#[derive(Clone, Debug)]
+pub struct Rival {
+    pub label: &'static str,
+    pub scale: u64,
+    pub entries: Vec<u128>,
+    /// Whether it meets all the equations by construction; otherwise it may not.
+    pub feasible: bool,
+}
+
+/// Shares are counted in this many parts.
+const PARTS: i128 = 16;
+
+/// A rival of a case that check accepts.
+pub fn rival(random: &mut Random, case: &Case) -> Rival {
+    match random.below(8) {
+        0 => rescaled(random, case),
+        1 => with_waste(random, case),
+        2 | 3 => swapped(random, case),
+        _ => reshaped(random, case),
+    }
+}
+
+/// The plan itself in finer units.
+fn rescaled(random: &mut Random, case: &Case) -> Rival {
+    let factor = 1 + random.magnitude(1 << 40) as u128;
+    Rival {
+        label: "rescaled",
+        scale: u64::from(case.scale) * factor as u64,
+        entries: case
+            .plan
+            .iter()
+            .map(|&entry| u128::from(entry) * factor)
+            .collect(),
+        feasible: true,
+    }
+}
+
+/// The plan in finer units with output moved between plants of a zone in some
+/// slices. Ramps, fuel and emissions may forbid it.
+fn swapped(random: &mut Random, case: &Case) -> Rival {
+    let mut rival = rescaled(random, case);
+    let shape = read_shape(&case.data).expect("sound data");
+    let mut source = Draft::empty(shape, case.scale);
+    source.case = case.clone();
+    let factor = (rival.scale / u64::from(case.scale)) as i128;
+    for _ in 0..1 + random.below(4) {
+        let y = random.below(shape.years as u64) as usize;
+        let s = random.below(shape.slices() as u64) as usize;
+        let giver = random.below(shape.plants as u64) as usize;
+        let plants = source.plants_in(source.zone_of(giver));
+        let taker = *random.pick(&plants);
+        let place = |g: usize| source.columns.index(Column::Gen, &[y, g, s]);
+        let given = rival.entries[place(giver)] as i128;
+        let room = source.cap(y, taker) * factor - rival.entries[place(taker)] as i128;
+        let moved = random.magnitude(given.min(room)) as u128;
+        rival.entries[place(giver)] -= moved;
+        rival.entries[place(taker)] += moved;
+    }
+    rival.label = "swapped";
+    rival.feasible = false;
+    rival
+}
+
+/// The plan in finer units with more unmet and as much more surplus, more
+/// spinshort and more firmshort.
+fn with_waste(random: &mut Random, case: &Case) -> Rival {
+    let mut rival = rescaled(random, case);
+    let shape = read_shape(&case.data).expect("sound data");
+    let columns = Draft::empty(shape, 1).columns;
+    for y in 0..shape.years {
+        for z in 0..shape.zones {
+            for s in 0..shape.slices() {
+                let more = random.magnitude(1 << 60) as u128;
+                rival.entries[columns.index(Column::Unmet, &[y, z, s])] += more;
+                rival.entries[columns.index(Column::Surplus, &[y, z, s])] += more;
+                let spare = random.magnitude(1 << 60) as u128;
+                rival.entries[columns.index(Column::SpinShort, &[y, z, s])] += spare;
+            }
+            let spare = random.magnitude(1 << 60) as u128;
+            rival.entries[columns.index(Column::FirmShort, &[y, z])] += spare;
+        }
+    }
+    rival.label = "with waste";
+    rival
+}
+
+/// The rival under construction: wide entries over the case's data.
+struct Build {
+    source: Draft,
+    /// M over N.
+    factor: i128,
+    entries: Vec<i128>,
+}
+
+impl Build {
+    fn entry(&self, column: Column, indices: &[usize]) -> i128 {
+        self.entries[self.source.columns.index(column, indices)]
+    }
+
+    fn set(&mut self, column: Column, indices: &[usize], value: i128) {
+        self.entries[self.source.columns.index(column, indices)] = value;
+    }
+
+    /// An entry of the sound plan in Mths.
+    fn planned(&self, column: Column, indices: &[usize]) -> i128 {
+        self.source.entry(column, indices) * self.factor
+    }
+
+    /// M.
+    fn scale(&self) -> i128 {
+        self.source.scale() * self.factor
+    }
+}
+
+fn share(random: &mut Random) -> i128 {
+    match random.below(4) {
+        0 => 0,
+        1 => PARTS,
+        _ => random.signed(0, PARTS),
+    }
+}
+
+fn reshaped(random: &mut Random, case: &Case) -> Rival {
+    let shape = read_shape(&case.data).expect("sound data");
+    let mut source = Draft::empty(shape, case.scale);
+    source.case = case.clone();
+    // Divisible by what shares of shares and minimum loads need.
+    let factor = 1000 * PARTS * PARTS * (1 + random.magnitude(1 << 24));
+    let entries = vec![0; source.columns.count()];
+    let mut build = Build {
+        source,
+        factor,
+        entries,
+    };
+    for g in 0..shape.plants {
+        reshape_plant(random, &mut build, g);
+    }
+    reshape_transfers(random, &mut build);
+    for y in 0..shape.years {
+        for z in 0..shape.zones {
+            for s in 0..shape.slices() {
+                balance(random, &mut build, y, z, s);
+                cover_spinning_reserve(random, &mut build, y, z, s);
+            }
+            cover_firm_capacity(random, &mut build, y, z);
+        }
+    }
+    Rival {
+        label: "reshaped",
+        scale: build.scale() as u64,
+        entries: build
+            .entries
+            .iter()
+            .map(|&entry| u128::try_from(entry).expect("an entry not below 0"))
+            .collect(),
+        feasible: true,
+    }
+}
+
+fn reshape_plant(random: &mut Random, build: &mut Build, g: usize) {
+    let kept = share(random);
+    let (output, offer) = (share(random), share(random));
+    let candidate = build.source.is_candidate(g);
+    let shape = build.source.shape;
+    for y in 0..shape.years {
+        // The first year of an existing plant is fixed by GenCap.
+        let kept = if candidate || y > 0 { kept } else { PARTS };
+        let cap = build.planned(Column::Cap, &[y, g]) * kept / PARTS;
+        let built = build.planned(Column::Build, &[y, g]) * kept / PARTS;
+        build.set(Column::Cap, &[y, g], cap);
+        build.set(Column::Build, &[y, g], built);
+        if !candidate && y > 0 {
+            let retire = build.entry(Column::Cap, &[y - 1, g]) - cap;
+            build.set(Column::Retire, &[y, g], retire);
+        }
+        for s in 0..shape.slices() {
+            let planned = build.planned(Column::Gen, &[y, g, s]) * kept / PARTS;
+            let least = least_output(build, y, g, s, cap);
+            let gen = least + (planned - least) / PARTS * output;
+            let reserve = build.planned(Column::Reserve, &[y, g, s]) * kept / PARTS;
+            build.set(Column::Gen, &[y, g, s], gen);
+            build.set(Column::Reserve, &[y, g, s], reserve / PARTS * offer);
+        }
+    }
+}
+
+/// What the minimum load asks of a capacity in Mths.
+fn least_output(build: &Build, y: usize, g: usize, s: usize, cap: i128) -> i128 {
+    debug_assert_eq!(build.entry(Column::Cap, &[y, g]), cap);
+    match build.source.is_minimum_load_day(s) {
+        true => build.source.data(Table::MinCapFac, &[g]) * cap / 1000,
+        false => 0,
+    }
+}
+
+fn reshape_transfers(random: &mut Random, build: &mut Build) {
+    let shape = build.source.shape;
+    for y in 0..shape.years {
+        for z in 0..shape.zones {
+            for z2 in 0..shape.zones {
+                let part = share(random);
+                for s in 0..shape.slices() {
+                    let flow = build.planned(Column::Trans, &[y, z, z2, s]);
+                    build.set(Column::Trans, &[y, z, z2, s], flow / PARTS * part);
+                }
+            }
+        }
+    }
+}
+
+/// At times more than is needed.
+fn extra(random: &mut Random) -> i128 {
+    match random.below(8) {
+        0 => random.magnitude(1 << 40),
+        _ => 0,
+    }
+}
+
+/// (14): unmet for a shortfall, surplus for an excess.
+fn balance(random: &mut Random, build: &mut Build, y: usize, z: usize, s: usize) {
+    let source = &build.source;
+    let ee = source.data(Table::Ee, &[y, z]);
+    let mut short = build.scale() * source.data(Table::Demand, &[y, z, s]) * ee;
+    for g in source.plants_in(z) {
+        short -= 1000 * build.entry(Column::Gen, &[y, g, s]);
+    }
+    for z2 in source.zones_beside(z) {
+        let received = 1000 - source.data(Table::Loss, &[y, z2, z]);
+        short += 1000 * build.entry(Column::Trans, &[y, z, z2, s]);
+        short -= received * build.entry(Column::Trans, &[y, z2, z, s]);
+    }
+    let both = extra(random);
+    build.set(Column::Unmet, &[y, z, s], short.max(0) + both);
+    build.set(Column::Surplus, &[y, z, s], (-short).max(0) + both);
+}
+
+/// (19).
+fn cover_spinning_reserve(random: &mut Random, build: &mut Build, y: usize, z: usize, s: usize) {
+    let source = &build.source;
+    let q = source.shape.season_of(s);
+    let mut short = 1000 * build.scale() * source.data(Table::SRes, &[y, z]);
+    for g in source.plants_in(z) {
+        short -= 1000 * build.entry(Column::Reserve, &[y, g, s]);
+        if source.is_vre(g) {
+            let error = source.data(Table::Err, &[]);
+            short += error * build.entry(Column::Gen, &[y, g, s]);
+        }
+    }
+    for z2 in source.zones_beside(z) {
+        let limit = build.scale() * source.data(Table::Tl, &[y, z2, z, q]);
+        short -= 1000 * (limit - build.entry(Column::Trans, &[y, z2, z, s]));
+    }
+    let spinshort = short.max(0) + extra(random);
+    build.set(Column::SpinShort, &[y, z, s], spinshort);
+}
+
+/// (21).
+fn cover_firm_capacity(random: &mut Random, build: &mut Build, y: usize, z: usize) {
+    let source = &build.source;
+    let margin = 1000 + source.data(Table::Prm, &[z]);
+    let mut short = margin * build.scale() * super::needed::peak(source, y, z);
+    for g in source.plants_in(z) {
+        let credit = source.data(Table::CapCredit, &[g]);
+        short -= credit * build.entry(Column::Cap, &[y, g]);
+    }
+    for z2 in source.zones_beside(z) {
+        for q in 0..source.shape.seasons {
+            short -= 1000 * build.scale() * source.data(Table::Tl, &[y, z2, z, q]);
+        }
+    }
+    let firmshort = short.max(0) + extra(random);
+    build.set(Column::FirmShort, &[y, z], firmshort);
+}

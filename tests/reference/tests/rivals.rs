@@ -1,0 +1,156 @@
+//! Demand 3 by experiment: no rival that meets all the equations costs less
+//! than the certificate allows.
+
+use epm_reference::certify;
+use epm_reference::generator::draft::Case;
+use epm_reference::generator::random::Random;
+use epm_reference::generator::rivals::rival;
+use epm_reference::generator::{optimal, shape, sound_case};
+use epm_reference::model::Model;
+use epm_reference::rival::{evaluate, within_certificate};
+use epm_reference::wide::Wide;
+
+const SEEDS: u64 = 250;
+const RIVALS_OF_EACH: u64 = 8;
+
+#[derive(Debug, Default)]
+struct Tally {
+    feasible: u64,
+    infeasible: u64,
+    cheaper_than_the_plan: u64,
+    bounded_above_zero: u64,
+    at_the_bound: u64,
+    wide_entries: u64,
+}
+
+/// N·cost(rival) against M·amount.
+fn compare(rival: Wide, rival_scale: u64, amount: u64, scale: u32) -> std::cmp::Ordering {
+    let left = rival.times(u64::from(scale));
+    left.cmp(&Wide::product(u128::from(amount), u128::from(rival_scale)))
+}
+
+fn try_rivals(random: &mut Random, case: &Case, tally: &mut Tally) {
+    let (cost, gap) =
+        certify(&case.data, case.scale, &case.plan, &case.multipliers).expect("a sound case");
+    for _ in 0..RIVALS_OF_EACH {
+        let rival = rival(random, case);
+        let found = evaluate(&case.data, rival.scale, &rival.entries).expect("sound data");
+        if let Some(row) = found.first_broken {
+            let model = Model::read(&case.data).expect("sound data");
+            assert!(!rival.feasible, "{}: {}", rival.label, model.rows.name(row));
+            tally.infeasible += 1;
+            continue;
+        }
+        assert!(
+            within_certificate(found.cost, rival.scale, (cost, gap), case.scale),
+            "{} rival at scale {} costs {}, certificate {cost} {gap} at {}",
+            rival.label,
+            rival.scale,
+            found.cost,
+            case.scale
+        );
+        tally.feasible += 1;
+        let against_plan = compare(found.cost, rival.scale, cost, case.scale);
+        tally.cheaper_than_the_plan += u64::from(against_plan.is_lt());
+        if cost > gap {
+            tally.bounded_above_zero += 1;
+            let against_bound = compare(found.cost, rival.scale, cost - gap, case.scale);
+            tally.at_the_bound += u64::from(against_bound.is_eq());
+        }
+        let wide = rival
+            .entries
+            .iter()
+            .any(|&entry| entry > u128::from(u32::MAX));
+        tally.wide_entries += u64::from(wide);
+    }
+}
+
+#[test]
+fn no_rival_is_below_a_drawn_certificate() {
+    let mut random = Random::new(31);
+    let mut tally = Tally::default();
+    for seed in 0..SEEDS {
+        let shape = shape(&mut random);
+        let case = sound_case(shape, seed);
+        try_rivals(&mut random, &case, &mut tally);
+    }
+    println!("drawn certificates: {tally:?}");
+    assert!(tally.feasible > SEEDS);
+    assert!(tally.cheaper_than_the_plan > 0);
+    assert!(tally.bounded_above_zero > 0);
+    assert!(tally.wide_entries > 0);
+}
+
+/// With gap 0 the bound is the plan's own cost.
+#[test]
+fn no_rival_is_below_an_optimal_certificate() {
+    let mut random = Random::new(32);
+    let mut tally = Tally::default();
+    for seed in 0..SEEDS {
+        let case = optimal::draft(&mut Random::new(seed)).case;
+        try_rivals(&mut random, &case, &mut tally);
+    }
+    println!("optimal certificates: {tally:?}");
+    assert!(tally.feasible > SEEDS);
+    assert_eq!(tally.cheaper_than_the_plan, 0);
+    assert!(tally.at_the_bound > 0);
+    assert!(tally.infeasible > 0);
+}
+
+/// A rival whose balance is off by one Mth of a kW is not feasible.
+#[test]
+fn rival_off_by_one_is_told() {
+    let mut random = Random::new(33);
+    for seed in 0..100 {
+        let shape = shape(&mut random);
+        let case = sound_case(shape, seed);
+        let model = Model::read(&case.data).expect("sound data");
+        let factor = 1_u64 << random.below(40);
+        let scale = u64::from(case.scale) * factor;
+        let mut entries: Vec<u128> = case
+            .plan
+            .iter()
+            .map(|&entry| u128::from(entry) * u128::from(factor))
+            .collect();
+        let found = evaluate(&case.data, scale, &entries).expect("sound data");
+        assert_eq!(found.first_broken, None);
+        let plan_cost = model.cost(&case.plan) * u128::from(factor);
+        assert_eq!(found.cost.to_u128(), Some(plan_cost));
+        let unmet = model
+            .columns
+            .index(epm_reference::columns::Column::Unmet, &[0, 0, 0]);
+        entries[unmet] += 1;
+        let found = evaluate(&case.data, scale, &entries).expect("sound data");
+        assert_eq!(found.first_broken, Some(0));
+    }
+}
+
+/// The bound by hand: the station's certificate 40000000000 with gap 8000000000
+/// at N = 2 allows 32000000000 / 2 a unit of scale.
+#[test]
+fn bound_is_compared_across_scales() {
+    let certificate = (40_000_000_000, 8_000_000_000);
+    let cost = Wide::from_u128;
+    assert!(within_certificate(cost(16_000_000_000), 1, certificate, 2));
+    assert!(!within_certificate(cost(15_999_999_999), 1, certificate, 2));
+    assert!(within_certificate(cost(48_000_000_000), 3, certificate, 2));
+    assert!(!within_certificate(cost(47_999_999_999), 3, certificate, 2));
+    // Cost less gap below 0 allows everything.
+    assert!(within_certificate(Wide::ZERO, 7, (5, 6), 1));
+}
+
+/// 256-bit numbers against results worked out by hand.
+#[test]
+fn wide_numbers_are_exact() {
+    let most = u128::MAX;
+    let square = Wide::product(most, most);
+    // (2^128 − 1)^2 = (2^128 − 2)·2^128 + 1.
+    assert_eq!(format!("{square}"), format!("0x{:x}{:032x}", most - 1, 1));
+    let shifted = Wide::from_u128(1 << 127).times(6);
+    assert_eq!(format!("{shifted}"), format!("0x{:x}{:032x}", 3, 0));
+    assert_eq!(Wide::product(7, 6).to_u128(), Some(42));
+    assert_eq!(shifted.to_u128(), None);
+    assert!(Wide::product(1 << 64, 1 << 64) > Wide::from_u128(most));
+    let carried = Wide::from_u128(most).plus(Wide::from_u128(1));
+    assert_eq!(carried, Wide::product(1 << 64, 1 << 64));
+}
