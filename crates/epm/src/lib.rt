@@ -1,0 +1,98 @@
+// The published calls: check and post. Each takes any lists, and answers on every input.
+pub mod tests;
+pub mod board;
+
+use capped::Amount;
+use crate::board::replace;
+use crate::tests::board_fits;
+use crate::tests::test_plan;
+use energy::totals::fill_energies;
+use model::Answer;
+use model::Counts;
+use model::Outcome;
+use model::Refusal;
+use parts::years::year_part;
+use prices::cost_of;
+use rows::walk::test_rows;
+use tables::names::GEN;
+use tables::sets::shape_of;
+use tables::sets::slices_of;
+use tables::starts::column_starts;
+use tables::starts::table_starts;
+use tables::tests::counts_of;
+use tables::tests::test_data;
+ghost use mathlib.Core.Path.{_≡_};
+ghost use lib.ListN.{length};
+ghost use Rattle.sums.specs.Span.{fine};
+ghost use Rattle.sums.specs.Index.{count};
+ghost use Rattle.model.specs.Data.{read};
+ghost use Rattle.model.specs.Columns.{columnBoxes};
+ghost use Rattle.model.specs.Tests.{dataFault, boardFault};
+ghost use Rattle.model.specs.Calls.{check as checkSpec, post as postSpec, posted, answer, boardAfter, replaced, yearOutputs};
+ghost use Rattle.tables.specs.Layout.{Laid, Planned, planEntry};
+ghost use Rattle.epm.specs.Answers.{rowsAndCost};
+
+// Refusals 6, 7 and 8, and the cost.
+fn price(data: &[u32], scale: u32, plan: &[u32], at: &[usize; 43], cat: &[usize; 43], c: Counts) -> Answer
+    requires { ⌜ Laid (now «data») (now at) c × ((dataFault (now «data») ≡ fine) × Planned (now plan) (now cat) c) ⌝ }
+    ensures { λ r. ⌜ r ≡ rowsAndCost (read (now («data» .entry))) scale (planEntry c (now (plan .entry))) ⌝ }
+{
+    let mut energy = [0; 1280];
+    fill_energies(data, plan, at, cat, c, &mut energy);
+    match test_rows(data, plan, &energy, at, cat, c, scale as u64) {
+        Outcome::Fails(r) => return Answer::Refused(r),
+        Outcome::Fine => {}
+    }
+    match capped::value(cost_of(data, plan, at, cat, c)) {
+        Amount::Exactly(cost) => Answer::Accepted(cost),
+        Amount::Above => Answer::Refused(Refusal::CostOffScale),
+    }
+}
+
+// check: data, N, plan; the cost, or the first refusal in document 01's order.
+pub fn check(data: &[u32], scale: u32, plan: &[u32]) -> Answer
+    ensures { λ r. ⌜ r ≡ checkSpec (now («data» .entry)) scale (now (plan .entry)) ⌝ }
+{
+    match test_data(data) {
+        Outcome::Fails(r) => return Answer::Refused(r),
+        Outcome::Fine => {}
+    }
+    let shape = shape_of(counts_of(data));
+    let c = shape.counts;
+    let at = table_starts(c);
+    let cat = column_starts(c);
+    match test_plan(scale, plan.len(), cat[10]) {
+        Outcome::Fails(r) => return Answer::Refused(r),
+        Outcome::Fine => {}
+    }
+    price(data, scale, plan, &at, &cat, c)
+}
+
+// Refusal 14, or the year's outputs on the board.
+fn put_year(data: &[u32], plan: &[u32], year: usize, board: &mut [u32], start: usize, cost: u64) -> Answer
+    requires { ⌜ (dataFault (now «data») ≡ fine) × (length (now plan) ≡ count (columnBoxes (read (now «data») .counts))) ⌝ }
+    ensures { λ r. ⌜ (r ≡ answer (boardFault (read (now («data» .entry))) year (length (now (board .entry))) start) cost)
+        × (now (board .exit) ≡ boardAfter (boardFault (read (now («data» .entry))) year (length (now (board .entry))) start) (now (board .entry))
+            (replaced (now (board .entry)) start (yearOutputs (read (now («data» .entry))) (now (plan .entry)) year))) ⌝ }
+{
+    let c = counts_of(data);
+    let cat = column_starts(c);
+    let places = c.plants * slices_of(c);
+    if !board_fits(c.years, year, board.len(), start, places) {
+        return Answer::Refused(Refusal::Board);
+    }
+    replace(board, start, year_part(plan, cat[GEN], places, year));
+    Answer::Accepted(cost)
+}
+
+// post: after the tests of check the year's part of the gen table replaces the board's places from `start` on; on a refusal the board keeps all it held.
+pub fn post(data: &[u32], scale: u32, plan: &[u32], year: usize, board: &mut [u32], start: usize) -> Answer
+    ensures { λ r. ⌜ (r ≡ postSpec (now («data» .entry)) scale (now (plan .entry)) year (now (board .entry)) start)
+        × (now (board .exit) ≡ posted (now («data» .entry)) scale (now (plan .entry)) year (now (board .entry)) start) ⌝ }
+{
+    let answer = check(data, scale, plan);
+    match answer {
+        Answer::Refused(r) => Answer::Refused(r),
+        Answer::Accepted(cost) => put_year(data, plan, year, board, start, cost),
+    }
+}

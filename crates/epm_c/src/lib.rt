@@ -1,0 +1,47 @@
+// The calls for C and Rust. Each slice passes as a pointer and a length; `out` takes an answer's two figures.
+use codes::answer_code;
+use model::Answer;
+use model::Code;
+ghost use mathlib.Core.Path.{_≡_};
+ghost use Prim.Native.Nat.{_<_, _≤_};
+ghost use lib.ListN.{length};
+ghost use Rattle.model.specs.Calls.{check, post, posted, answerCode};
+ghost use Rattle.epm_c.specs.Exports.{status, written, figures, boardOf};
+
+// The two figures of a code.
+fn put(out: &mut [u64], code: Code)
+    requires { ⌜ 2 ≤ length (now out) ⌝ }
+    ensures { λ _. ⌜ now (out .exit) ≡ figures (now (out .entry)) code ⌝ }
+{
+    out[0] = code.first;
+    out[1] = code.second;
+}
+
+// 0 with the cost in out[0], or the refusal's number with its place there; out[1] is 0. 255 where `out` is shorter than 2, with nothing written.
+#[no_mangle]
+pub extern "C" fn epm_check(data: &[u32], scale: u32, plan: &[u32], out: &mut [u64]) -> u32
+    ensures { λ r. ⌜ (r ≡ status (length (now (out .entry))) (answerCode (check (now («data» .entry)) scale (now (plan .entry)))))
+        × (now (out .exit) ≡ written (now (out .entry)) (answerCode (check (now («data» .entry)) scale (now (plan .entry))))) ⌝ }
+{
+    if out.len() < 2 {
+        return 255;
+    }
+    let code = answer_code(epm::check(data, scale, plan));
+    put(out, code);
+    code.number
+}
+
+// The same answers, and the board as post leaves it; where `out` is too short the board is not written either.
+#[no_mangle]
+pub extern "C" fn epm_post(data: &[u32], scale: u32, plan: &[u32], year: usize, board: &mut [u32], start: usize, out: &mut [u64]) -> u32
+    ensures { λ r. ⌜ (r ≡ status (length (now (out .entry))) (answerCode (post (now («data» .entry)) scale (now (plan .entry)) year (now (board .entry)) start)))
+        × ((now (out .exit) ≡ written (now (out .entry)) (answerCode (post (now («data» .entry)) scale (now (plan .entry)) year (now (board .entry)) start)))
+        × (now (board .exit) ≡ boardOf (length (now (out .entry))) (now (board .entry)) (posted (now («data» .entry)) scale (now (plan .entry)) year (now (board .entry)) start))) ⌝ }
+{
+    if out.len() < 2 {
+        return 255;
+    }
+    let code = answer_code(epm::post(data, scale, plan, year, board, start));
+    put(out, code);
+    code.number
+}

@@ -1,0 +1,14 @@
+-- The year's parts of the tables by year, plant and slice.
+use mathlib.Core.Path.{_≡_}
+use mathlib.Core.List.{List}
+use Prim.Native.Nat.{ℕ, _+_, _*_, _<_}
+use lib.ListN.{length, getD}
+use Rattle.sums.specs.Index.{index}
+use Rattle.model.specs.declared.Counts.{Counts}
+use Rattle.model.specs.Counts.{slicesOf}
+use Rattle.tables.specs.Layout.{planEntry}
+
+-- a year's part of table t of columns by year, plant and slice (3 gen, 4 reserve): entry g, s stands at g·S + s
+pub record YearPart (plan part : List ℕ) (c : Counts) (t y : ℕ) : Type 0 where
+  pub long : length part ≡ c .plants * slicesOf c
+  pub is : (g s : ℕ) → g < c .plants → s < slicesOf c → getD part (g * slicesOf c + s) 0 ≡ planEntry c plan (index t y g 0 s)

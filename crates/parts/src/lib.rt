@@ -1,0 +1,3 @@
+// What rows, costs and posting read in common: the calendar of the slices, and the year's parts of the gen and reserve tables.
+pub mod slices;
+pub mod years;

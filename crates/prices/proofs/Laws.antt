@@ -1,0 +1,176 @@
+-- Laws of the prices and of the cost. Assumes nothing.
+use mathlib.Core.Path.{_≡_, refl, sym, _∙_, ap}
+use mathlib.Core.Bool.{not}
+use mathlib.Core.List.{List}
+use Prim.Native.Nat.{ℕ, _+_, _*_, _-_, _≤_, _<_}
+use native.Mathlib.Nat.{zero-add, add-zero, add-assoc, zero-mul, mul-comm, mul-assoc, mul-left-comm, mul-pos}
+use native.Mathlib.Omega.{arith}
+use lib.Dec.{eqb}
+use lib.ListN.{length, getD, take, drop, length-take, length-drop}
+use lib.Seq.{getD-take, getD-drop}
+use borrow.Author.Tests.{eq-eqb, ne-eqb}
+use Rattle.capped.specs.declared.Sum.{Sum}
+use Rattle.capped.specs.Cap.{cap, plus, both, times, word}
+use Rattle.capped.proofs.Laws.{plus-cap, both-cap, times-cap, plus-word}
+use Rattle.sums.specs.Sum.{sum, on}
+use Rattle.sums.specs.Index.{Index, index, box, boxOf, inside}
+use Rattle.sums.proofs.Sums.{sum-cong, sum-add, sum-scale, sum-single, sum-const-zero}
+use Rattle.model.specs.declared.Counts.{Counts}
+use Rattle.model.specs.Counts.{sets, slicesOf}
+use Rattle.model.specs.Data.{Data, duration, genCost, tax, emission}
+use Rattle.model.specs.Columns.{columnSets, columnBoxes}
+use Rattle.model.specs.Prices.{price, cost, yearWeight}
+use Rattle.tables.specs.Layout.{Inside, Column, planEntry}
+use Rattle.tables.proofs.Laws.{columnPlace, column-below, column-is}
+use Rattle.prices.specs.Costs.{Hourly, Hours, gen, reserve, unmet, surplus, spinshort, setOf, firstsOf, hourPrice, slicesCost, hoursCost, yearCost}
+
+-- Capped sums
+
+-- a capped sum as a factor, by its word
+pub times-word : (m n : ℕ) → times (cap m) (word (cap n)) ≡ cap (m * n)
+times-word m n =
+    times-cap m (word (cap n)) ∙ simp zero-add at (sym (plus-cap 0 (m * word (cap n))) ∙ plus-word 0 m n)
+
+pub joined : {r s t : Sum} (m n : ℕ) → r ≡ both s t → s ≡ cap m → t ≡ cap n → r ≡ cap (m + n)
+joined m n e p q = e ∙ rw (p, q) (both-cap m n)
+
+-- The price of a MW: k is the plant's kind
+
+pub existing-price : (F a : ℕ) {f r k : ℕ} → f ≡ F → r ≡ k → r ≡ 0 → f ≡ F + on (not (eqb k 0)) a
+existing-price F a {k = k} e h z = rw (eq-eqb k 0 (sym h ∙ z)) (e ∙ sym (add-zero F))
+
+pub candidate-price : (F a : ℕ) {f r k b : ℕ} → f ≡ F → r ≡ k → (r ≡ 0 → ⊥) → b ≡ a → f + b ≡ F + on (not (eqb k 0)) a
+candidate-price F a {k = k} e h z q = rw (ne-eqb k 0 (λ w. z (h ∙ w)), e, q)
+
+-- The tables priced by the hour
+
+-- what the last arm of the `match` on the table knows
+pub last-table : {t : ℕ} → Hourly t → (t ≡ 3 → ⊥) → (t ≡ 4 → ⊥) → (t ≡ 6 → ⊥) → (t ≡ 7 → ⊥) → t ≡ 8
+last-table gen a b d e = absurd (a refl)
+last-table reserve a b d e = absurd (b refl)
+last-table unmet a b d e = absurd (d refl)
+last-table surplus a b d e = absurd (e refl)
+last-table spinshort a b d e = refl
+
+pub table-below : {t : ℕ} → Hourly t → t < length columnSets
+table-below gen = omega arith
+table-below reserve = omega arith
+table-below unmet = omega arith
+table-below surplus = omega arith
+table-below spinshort = omega arith
+
+-- by plant below trans, by zone above it
+pub set-plants : {t : ℕ} → Hourly t → t < 5 → 3 ≡ setOf t
+set-plants gen l = refl
+set-plants reserve l = refl
+set-plants unmet l = absurd (omega arith)
+set-plants surplus l = absurd (omega arith)
+set-plants spinshort l = absurd (omega arith)
+
+pub set-zones : {t : ℕ} → Hourly t → 5 ≤ t → 0 ≡ setOf t
+set-zones gen l = absurd (omega arith)
+set-zones reserve l = absurd (omega arith)
+set-zones unmet l = refl
+set-zones surplus l = refl
+set-zones spinshort l = refl
+
+-- years, plants or zones, one second index, slices
+hourly-box : {t : ℕ} → Hourly t → (c : Counts) → boxOf (sets c) (setOf t) ≡ box (c .years) (firstsOf c t) 1 (slicesOf c)
+hourly-box gen c = refl
+hourly-box reserve c = refl
+hourly-box unmet c = refl
+hourly-box surplus c = refl
+hourly-box spinshort c = refl
+
+pub hourly-price : (D : Data) {t : ℕ} → Hourly t → (y i s : ℕ) → price D (index t y i 0 s) ≡ yearWeight D y * duration D s * hourPrice D t y i
+unfolding price hourPrice
+hourly-price D gen y i s = refl
+hourly-price D reserve y i s = refl
+hourly-price D unmet y i s = refl
+hourly-price D surplus y i s = refl
+hourly-price D spinshort y i s = refl
+
+pub gen-price : (D : Data) (t y i : ℕ) {s r : Sum} {g w e : ℕ} → t ≡ 3 → g ≡ genCost D y i → w ≡ tax D y → e ≡ emission D i
+    → s ≡ cap g → r ≡ plus s (w * e) → r ≡ cap (hourPrice D t y i)
+unfolding hourPrice
+gen-price D t y i et eg ew ee es er = er ∙ rw (es, et, eg, ew, ee) (plus-cap (genCost D y i) (tax D y * emission D i))
+
+-- the hours summed first and priced once
+module _ (D : Data) (c : Counts) (x : Index → ℕ) {t : ℕ} (h : Hourly t) (y i : ℕ) (part : List ℕ) (e : (s : ℕ) → s < slicesOf c → getD part s 0 ≡ x (index t y i 0 s)) where
+  abbrev hours : ℕ
+  hours = sum (slicesOf c) (λ s. duration D s * getD part s 0)
+
+  abbrev perHour : ℕ
+  perHour = hourPrice D t y i * yearWeight D y
+
+  hours-cost : perHour * hours ≡ slicesCost D c x t y i
+  hours-cost =
+      sym (sum-scale (slicesOf c) perHour (λ s. duration D s * getD part s 0))
+      ∙ sum-cong (slicesOf c) (λ s l. rw (e s l, hourly-price D h y i s) (simp (mul-comm, mul-assoc, mul-left-comm)))
+
+  pub hours-priced : {p q m r : Sum} {w k : ℕ} → w ≡ yearWeight D y → p ≡ cap (hourPrice D t y i) → q ≡ times p w
+      → m ≡ cap hours → k ≡ word m → r ≡ times q k → r ≡ cap (slicesCost D c x t y i)
+  hours-priced ew ep eq em ek er =
+      er ∙ rw (eq, ep, ew, ek, em, times-cap (hourPrice D t y i) (yearWeight D y)) (times-word perHour hours ∙ ap cap hours-cost)
+
+-- The part of the plan that holds the slices of plant or zone i in year y
+module _ {plan at : List ℕ} {c : Counts} {t y i : ℕ} (m : Hours plan at c t y i) where
+  pub slices-inside : {k s : ℕ} → k ≡ setOf t → s < slicesOf c → Inside c k y i 0 s
+  slices-inside e l = rw e (record {
+    year = rw (hourly-box (m .table) c) (m .year);
+    «first» = m .first;
+    second = rw (hourly-box (m .table) c) (omega arith);
+    slice = rw (hourly-box (m .table) c) l;
+  })
+
+  pub some-slices : 0 < slicesOf c
+  some-slices = mul-pos (mul-pos (m .counted .someSeasons) (m .counted .someDays)) (m .counted .someHours)
+
+  column : {s : ℕ} → s < slicesOf c → Column plan at c t (setOf t) y i 0 s
+  column l = record { planned = m .planned; counted = m .counted; table = table-below (m .table); set = refl; inside = slices-inside refl l }
+
+  -- the code has the index set's code k, the place o of the first slice inside the table, and the number n of slices in locals
+  module _ {k o n : ℕ} (ek : k ≡ setOf t) (eo : o ≡ inside (boxOf (sets c) k) y i 0 0) (en : n ≡ slicesOf c) where
+    place-is : {s : ℕ} (l : s < slicesOf c) → getD at t 0 + o + s ≡ columnPlace (column l)
+    place-is l = rw (eo, ek) (omega arith)
+
+    pub slices-fit : getD at t 0 + o + n ≤ length plan
+    slices-fit =
+        let last : slicesOf c - 1 < slicesOf c = omega (arith, some-slices) in
+        omega (arith, en, place-is last, column-below (column last))
+
+    abbrev pub slices : List ℕ
+    slices = take n (drop (getD at t 0 + o) plan)
+
+    pub slices-are : (length slices ≡ slicesOf c) × ((s : ℕ) → s < slicesOf c → getD slices s 0 ≡ planEntry c plan (index t y i 0 s))
+    slices-are = (
+      omega (arith, length-take n (drop (getD at t 0 + o) plan), length-drop (getD at t 0 + o) plan, slices-fit),
+      λ s l.
+          getD-take n (drop (getD at t 0 + o) plan) s 0 (omega arith)
+          ∙ getD-drop (getD at t 0 + o) plan s 0 ∙ ap (λ (p : ℕ). getD plan p 0) (place-is l) ∙ column-is (column l),
+    )
+
+-- The cost by years
+
+sum-ten : (f : ℕ → ℕ) → sum 10 f ≡ f 0 + f 1 + f 2 + f 3 + f 4 + f 5 + f 6 + f 7 + f 8 + f 9
+unfolding sum
+sum-ten f = omega arith
+
+module _ (D : Data) (y i j s : ℕ) where
+  build-free : price D (index 1 y i j s) ≡ 0
+  unfolding price
+  build-free = refl
+
+  retire-free : price D (index 2 y i j s) ≡ 0
+  unfolding price
+  retire-free = refl
+
+  trans-free : price D (index 5 y i j s) ≡ 0
+  unfolding price
+  trans-free = refl
+
+pub cost-by-year : (D : Data) (c : Counts) (x : Index → ℕ) → D .counts ≡ c → cost D x ≡ sum (c .years) (λ y. yearCost D c x y)
+unfolding cost columnBoxes yearCost hoursCost
+cost-by-year D c x e =
+    rw (← e)
+    (sum-ten _ ∙ simp (sum-single, build-free, retire-free, trans-free, zero-mul, sum-const-zero, sum-add, add-zero, add-assoc))

@@ -1,0 +1,63 @@
+-- The cost year by year, as the code sums it: the capacities, the tables priced by the hour, and the firm capacity that is short.
+use mathlib.Core.List.{List, [], _∷_}
+use Prim.Native.Nat.{ℕ, _+_, _*_, _<_}
+use lib.ListN.{getD}
+use Rattle.sums.specs.Sum.{sum}
+use Rattle.sums.specs.Index.{Index, index, boxOf}
+use Rattle.model.specs.declared.Counts.{Counts}
+use Rattle.model.specs.Counts.{sets, slicesOf}
+use Rattle.model.specs.Data.{Data, genCost, tax, emission, resCost, voll, surplusPenalty, sresVoLL}
+use Rattle.model.specs.Columns.{columnSets, cap, firmshort}
+use Rattle.model.specs.Prices.{price}
+use Rattle.tables.specs.Layout.{Counted, Planned}
+
+-- the tables of columns that are priced by the hour: the columns of each are by year, plant or zone, and slice
+pub data Hourly : ℕ → Type 0 where
+  gen : Hourly 3
+  reserve : Hourly 4
+  unmet : Hourly 6
+  surplus : Hourly 7
+  spinshort : Hourly 8
+
+-- the code of a table's index set, and how many plants or zones it has
+abbrev pub setOf : ℕ → ℕ
+setOf t = getD columnSets t 0
+
+abbrev pub firstsOf : Counts → ℕ → ℕ
+firstsOf c t = boxOf (sets c) (setOf t) .firsts
+
+-- the columns of plant or zone i in year y of table t can be read
+pub record Hours (plan at : List ℕ) (c : Counts) (t y i : ℕ) : Type 0 where
+  pub planned : Planned plan at c
+  pub counted : Counted c
+  pub table : Hourly t
+  pub year : y < c .years
+  pub «first» : i < firstsOf c t
+
+-- the price of an hour of table t, without the factor W of the year
+unfoldable pub hourPrice : Data → ℕ → ℕ → ℕ → ℕ
+hourPrice D t y i =
+    getD (0 ∷ 0 ∷ 0 ∷ (genCost D y i + tax D y * emission D i) ∷ resCost D i ∷ 0 ∷ voll D ∷ surplusPenalty D ∷ sresVoLL D ∷ []) t 0
+
+module _ (D : Data) (c : Counts) (x : Index → ℕ) where
+  abbrev pub term : Index → ℕ
+  term i = price D i * x i
+
+  abbrev pub capCost : ℕ → ℕ
+  capCost y = sum (c .plants) (λ g. term (cap y g))
+
+  abbrev pub slicesCost : ℕ → ℕ → ℕ → ℕ
+  slicesCost t y i = sum (slicesOf c) (λ s. term (index t y i 0 s))
+
+  abbrev pub hourlyCost : ℕ → ℕ → ℕ
+  hourlyCost t y = sum (firstsOf c t) (λ i. slicesCost t y i)
+
+  abbrev pub firmshortCost : ℕ → ℕ
+  firmshortCost y = sum (c .zones) (λ z. term (firmshort y z))
+
+  unfoldable pub hoursCost : ℕ → ℕ
+  hoursCost y = hourlyCost 3 y + hourlyCost 4 y + hourlyCost 6 y + hourlyCost 7 y + hourlyCost 8 y
+
+  -- build, retire and trans have no price
+  unfoldable pub yearCost : ℕ → ℕ
+  yearCost y = capCost y + hoursCost y + firmshortCost y

@@ -1,0 +1,147 @@
+-- What the functions of the families cite: a row's two sums from the answers of the calls that make them, and the tests that decide which
+-- terms it has. A law takes the call's answer and the equations of its arguments, and gives the sum of the document's numbers. Assumes nothing.
+use mathlib.Core.Path.{_≡_, refl, sym, ap, ap₂, _∙_}
+use mathlib.Core.Bool.{Bool, true, false, not, _&&_, _||_}
+use mathlib.Core.Logic.{⊎-elim}
+use mathlib.Core.List.{List}
+use Prim.Native.Nat.{ℕ, _+_, _*_, _-_, _%_, _≤_, _<_}
+use native.Mathlib.Nat.{add-zero, zero-add, mul-zero, zero-mod}
+use native.Mathlib.Omega.{arith}
+use lib.Dec.{eqb, leb, ltb}
+use lib.ListN.{getD}
+use borrow.Author.Tests.{eq-eqb, ne-eqb, eqb-true, eqb-false, le-ltb, lt-ltb, le-leb, lt-leb, not-true, not-false}
+use Rattle.capped.specs.declared.Sum.{Sum}
+use Rattle.capped.specs.Cap.{cap, plus, plusIf, both}
+use Rattle.capped.proofs.Laws.{plus-cap, both-cap, le-or-lt}
+use Rattle.sums.specs.Sum.{sum, on}
+use Rattle.sums.specs.Span.{fine}
+use Rattle.sums.specs.Index.{index}
+use Rattle.sums.proofs.Sums.{sum-cong}
+use Rattle.model.specs.declared.Counts.{Counts}
+use Rattle.model.specs.Counts.{slicesOf, [yzs], [yz]}
+use Rattle.model.specs.Data.{read, prm, tableBoxes}
+use Rattle.model.specs.Families.{familyOf}
+use Rattle.model.specs.Tests.{entriesFault}
+use Rattle.model.proofs.Sound.{entry-range}
+use Rattle.tables.specs.Layout.{Laid, Inside, planEntry}
+use Rattle.parts.specs.Years.{YearPart}
+use Rattle.terms.proofs.Laws.{plus-on}
+use Rattle.rows.specs.declared.Sides.{Sides}
+use Rattle.rows.specs.Ready.{Ready, sidesWith, noSides}
+
+-- Sums
+
+pub product-is : {s : Sum} {a b u v : ℕ} → s ≡ cap (a * b) → a ≡ u → b ≡ v → s ≡ cap (u * v)
+product-is e p q = rw (← p, ← q) e
+
+pub plus-is : {s t : Sum} {a b u v : ℕ} (m : ℕ) → t ≡ plus s (a * b) → s ≡ cap m → a ≡ u → b ≡ v → t ≡ cap (m + u * v)
+plus-is {u = u} {v = v} m e h p q = e ∙ rw (h, p, q) (plus-cap m (u * v))
+
+pub join-is : {r s t : Sum} (m n : ℕ) → r ≡ both s t → s ≡ cap m → t ≡ cap n → r ≡ cap (m + n)
+join-is m n e h k = e ∙ rw (h, k) (both-cap m n)
+
+-- a product of three, added to nothing
+pub product3-is : {r s : Sum} {a b d u v w : ℕ} → r ≡ plus s (a * b * d) → s ≡ cap 0 → a ≡ u → b ≡ v → d ≡ w → r ≡ cap (u * v * w)
+product3-is {u = u} {v = v} {w = w} e h p q t = e ∙ rw (h, p, q, t, plus-cap, zero-add)
+
+-- a part of the document's sum is 0 here
+pub plus-nothing : {s : Sum} (u : ℕ) → s ≡ cap u → s ≡ cap (u + 0)
+plus-nothing u e = e ∙ ap cap (sym (add-zero u))
+
+pub nothing-plus : {s : Sum} (u : ℕ) → s ≡ cap u → s ≡ cap (0 + u)
+nothing-plus u e = e ∙ ap cap (sym (zero-add u))
+
+pub plus-if-is : {r s : Sum} {n v : ℕ} (b : Bool) (m a : ℕ) → r ≡ plusIf b s (a * n) → s ≡ cap m → n ≡ v → r ≡ cap (m + on b (a * v))
+plus-if-is {v = v} b m a e h q = e ∙ rw (h, q) (plus-on b m (a * v))
+
+pub times-is : {a b u v : ℕ} → a ≡ u → b ≡ v → a * b ≡ u * v
+times-is e h = ap₂ (λ (m n : ℕ). m * n) e h
+
+-- a year's part stands for the plan, in a sum over the plants for which w stands for z
+pub part-sum : {plan part : List ℕ} {c : Counts} {t y s : ℕ} → YearPart plan part c t y → s < slicesOf c
+    → {r : Sum} {w z : ℕ} (F : ℕ → ℕ → ℕ → ℕ) → r ≡ cap (sum (c .plants) (λ g. F w g (getD part (g * slicesOf c + s) 0))) → w ≡ z
+    → r ≡ cap (sum (c .plants) (λ g. F z g (planEntry c plan (index t y g 0 s))))
+part-sum p h {z = z} F e q = e ∙ rw q (ap cap (sum-cong _ (λ g l. ap (F z g) (p .is g _ l h))))
+
+-- Rows
+
+-- a row's two sums: without a constant, with one, and where its condition fails
+
+module _ (N u v : ℕ) {a b : Sum} where
+  pub plain : a ≡ cap u → b ≡ cap v → _≡_ {A = Sides} (record { above = a; below = b }) (record { above = cap (u + N * (0 - 0)); below = cap (v + N * (0 - 0)) })
+  plain h k = rw (h, k, mul-zero, add-zero u, add-zero v)
+
+  pub constant : {r : Sides} {p m P M : ℕ} → r ≡ sidesWith a b N p m → p ≡ P → m ≡ M → a ≡ cap u → b ≡ cap v
+      → r ≡ record { above = cap (u + N * (P - M)); below = cap (v + N * (M - P)) }
+  unfolding sidesWith
+  constant e p m h k = e ∙ rw (p, m, h, k, plus-cap u, plus-cap v)
+
+pub no-terms : (N : ℕ) {r : Sides} → r ≡ noSides → r ≡ record { above = cap (0 + N * (0 - 0)); below = cap (0 + N * (0 - 0)) }
+unfolding noSides
+no-terms N e = e ∙ plain N 0 0 refl refl
+
+-- Tests
+
+-- a test by the code, as a flag of the document's number
+pub flag-on : {a b : ℕ} (n : ℕ) → a ≡ b → a ≡ n → eqb b n ≡ true
+flag-on n e h = eq-eqb _ n (sym e ∙ h)
+
+pub flag-off : {a b : ℕ} (n : ℕ) → a ≡ b → (a ≡ n → ⊥) → eqb b n ≡ false
+flag-off n e h = ne-eqb _ n (λ q. h (e ∙ q))
+
+-- t = 0 and t > 0
+pub first-hour : {b : Bool} (t : ℕ) → b ≡ eqb t 0 → b ≡ true → ltb 0 t ≡ false
+first-hour t e h = let z = eqb-true t 0 (sym e ∙ h) in le-ltb 0 t (omega arith)
+
+pub later-hour : {b : Bool} (t : ℕ) → b ≡ eqb t 0 → b ≡ false → ltb 0 t ≡ true
+later-hour t e h =
+    ⊎-elim (λ (l : t ≤ 0). let z : t ≡ 0 = omega arith in absurd (eqb-false t 0 (sym e ∙ h) z)) (λ (l : 0 < t). lt-ltb 0 t l) (le-or-lt t 0)
+
+-- a slice after the first hour of its day has one before it
+pub some-before : {b : Bool} (s n : ℕ) → b ≡ eqb (s % n) 0 → b ≡ false → 1 ≤ s
+some-before s n e h =
+    ⊎-elim (λ (l : s ≤ 0). let z : s ≡ 0 = omega arith in absurd (eqb-false (s % n) 0 (sym e ∙ h) (rw z (zero-mod n)))) (λ (l : 0 < s). l) (le-or-lt s 0)
+
+-- out of service, by kind, year of retirement or commission, and the year now, counted from 1
+abbrev pub out : ℕ → ℕ → ℕ → Bool
+out kind year now = (eqb kind 0 && leb year now) || (not (eqb kind 0) && ltb now year)
+
+module _ (kind year now : ℕ) where
+  pub existing-serves : kind ≡ 0 → ltb now year ≡ not (out kind year now)
+  existing-serves e =
+      rw (eq-eqb kind 0 e)
+      (⊎-elim (λ (h : year ≤ now). rw (le-leb year now h, le-ltb now year h)) (λ (h : now < year). rw (lt-leb year now h, lt-ltb now year h)) (le-or-lt year now))
+
+  pub candidate-serves : (kind ≡ 0 → ⊥) → leb year now ≡ not (out kind year now)
+  candidate-serves e =
+      rw (ne-eqb kind 0 e)
+      (⊎-elim (λ (h : year ≤ now). rw (le-leb year now h, le-ltb now year h)) (λ (h : now < year). rw (lt-leb year now h, lt-ltb now year h)) (le-or-lt year now))
+
+module _ {r : Bool} {kind year K Y : ℕ} (now : ℕ) (e : r ≡ not (out kind year now)) (p : kind ≡ K) (q : year ≡ Y) where
+  pub serves : r ≡ true → out K Y now ≡ false
+  serves h = rw (← p, ← q) (not-true (out kind year now) (sym e ∙ h))
+
+  pub idle : r ≡ false → out K Y now ≡ true
+  idle h = rw (← p, ← q) (not-false (out kind year now) (sym e ∙ h))
+
+-- What the readers ask
+
+pub zone-slice : {c : Counts} {y z s : ℕ} → y < c .years → z < c .zones → s < slicesOf c → Inside c [yzs] y z 0 s
+zone-slice hy hz hs = record { year = hy; «first» = hz; second = omega arith; slice = hs }
+
+pub year-zone : {c : Counts} {y z : ℕ} → y < c .years → z < c .zones → Inside c [yz] y z 0 0
+year-zone hy hz = record { year = hy; «first» = hz; second = omega arith; slice = omega arith }
+
+-- PRM of data that passed refusal 3
+pub few-prm : {l at : List ℕ} {c : Counts} {z : ℕ} → Laid l at c → entriesFault (read l) ≡ fine → z < c .zones → prm (read l) z ≤ 1000
+unfolding tableBoxes
+few-prm {l} {z = z} n e h = entry-range (read l) e 28 0 z 0 0 (omega arith, omega arith, rw (n .counts) h, omega arith, omega arith) .1
+
+-- The dispatcher
+
+pub inside-at : {c : Counts} {k y i j s : ℕ} (K : ℕ) → k ≡ K → Inside c (familyOf k .set) y i j s → Inside c (familyOf K .set) y i j s
+inside-at K e m = rw e at m
+
+-- what the row functions of families 15 and 18, which have no year, work on
+pub first-year : {l plan os rs energy at cat : List ℕ} {c : Counts} {y : ℕ} → y < 1 → Ready l plan os rs energy at cat c y → Ready l plan os rs energy at cat c 0
+first-year {y = y} h r = let z : y ≡ 0 = omega arith in rw z at r

@@ -1,0 +1,56 @@
+use mathlib.Core.Path.{refl, _∙_}
+use Rattle.model.specs.Data.{read, duration}
+use Rattle.model.specs.Families.{available}
+use Rattle.energy.proofs.Laws.{season-is, available-energy}
+use Rattle.rows.specs.Ready.{sidesOf}
+use Rattle.rows.proofs.Laws.{plain, product-is, product3-is}
+use borrow.Author.Needs.{needs}
+use Rattle.rows.proofs.dispatch.available.Statement.{statement}
+use Rattle.rows.proofs.dispatch.available.Tie as tie
+
+by-plant-season-requires : tie.Need-by-plant-season-requires
+by-plant-season-requires c κs = search needs
+
+zero-requires : tie.Need-zero-requires
+zero-requires c κs = search needs
+
+season-hours-requires : tie.Need-season-hours-requires
+season-hours-requires c κs = search needs
+
+planned-by-year-plant-requires : tie.Need-planned-by-year-plant-requires
+planned-by-year-plant-requires c κs = search needs
+
+add-product3-requires : tie.Need-add-product3-requires
+add-product3-requires c κs = search needs
+
+energy-at-requires : tie.Need-energy-at-requires
+energy-at-requires c κs = search needs
+
+product-requires : tie.Need-product-requires
+product-requires c κs = search needs
+
+returns : tie.Need-returns
+unfolding sidesOf available
+returns c =
+    let c4 = c .before .before .before .before in
+    let c8 = c4 .before .before .before .before in
+    let p = c8 .before .before .before .pre in
+    let D = read (c8 .before .before .before .args .«data» .now) in
+    let n = p .0 .laid .counts in
+    plain _ _ _
+    (product3-is (c .before .before .add-product3 .ensures) (c4 .before .zero .ensures) (c4 .before .before .by-plant-season .ensures .0)
+    (c4 .season-hours .ensures .0 ∙ season-is D _ (λ s. duration D s) n refl) (c .before .before .before .planned-by-year-plant .ensures .0))
+    (product-is (c .product .ensures) refl (c .before .energy-at .ensures) ∙ available-energy (p .0 .energies) n (p .1 .0) _ _ (p .1 .1 .0) (p .1 .1 .1))
+
+pub available-spec : {M : Type 1} → statement M
+available-spec =
+    tie.close
+    (tie.spec
+    by-plant-season-requires
+    zero-requires
+    season-hours-requires
+    planned-by-year-plant-requires
+    add-product3-requires
+    energy-at-requires
+    product-requires
+    returns)

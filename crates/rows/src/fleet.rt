@@ -1,0 +1,328 @@
+// Families 12 to 20: the rows of the fleet: capacity, builds, fuel, capital and emissions.
+use crate::Sides;
+use crate::constants::empty;
+use crate::constants::with_constant;
+use capped::Sum;
+use energy::totals::burned;
+use energy::totals::emitted;
+use energy::totals::emitted_in;
+use model::Counts;
+use parts::slices::long;
+use tables::entries::by_plant;
+use tables::entries::by_year;
+use tables::entries::by_year_fuel;
+use tables::entries::by_year_zone;
+use tables::entries::planned_by_year_plant;
+use tables::entries::single;
+use tables::names::BUILD;
+use tables::names::BUILD_LIMIT;
+use tables::names::CAP;
+use tables::names::GEN_CAP;
+use tables::names::KIND;
+use tables::names::MAX_CAPITAL;
+use tables::names::MAX_FUEL;
+use tables::names::MAX_NEW_CAP;
+use tables::names::RETIRE;
+use tables::names::SYSTEM_CAP;
+use tables::names::WEIGHT;
+use tables::names::YEAR;
+use tables::names::ZONE_CAP;
+use terms::plants::build_sum;
+use terms::plants::capital_sum;
+ghost use mathlib.Core.Path.{_≡_};
+ghost use mathlib.Core.Bool.{not, _&&_, _||_};
+ghost use Prim.Native.Nat.{_+_, _*_, _-_, _<_};
+ghost use lib.Dec.{eqb, leb, ltb};
+ghost use Rattle.capped.specs.Cap.{cap};
+ghost use Rattle.sums.specs.Sum.{on};
+ghost use Rattle.model.specs.Data.{read};
+ghost use Rattle.model.specs.Families.{row};
+ghost use Rattle.model.specs.Columns.{cap as capColumn};
+ghost use Rattle.tables.specs.Layout.{Counted, Planned, planEntry};
+ghost use Rattle.rows.specs.Ready.{Ready, sidesOf};
+
+// 12 (34): existing, first year: cap = GenCap; later: cap = earlier cap − retire. Candidate: cap = earlier cap (0 in the first year) + build
+pub fn stock(
+    data: &[u32],
+    plan: &[u32],
+    outputs: &[u32],
+    reserves: &[u32],
+    energy: &[u64; 1280],
+    at: &[usize; 43],
+    cat: &[usize; 43],
+    c: Counts,
+    scale: u64,
+    y: usize,
+    g: usize,
+) -> Sides
+    requires { ⌜ Ready (now «data») (now plan) (now outputs) (now reserves) (now energy) (now at) (now cat) c y × ((y < c .years) × (g < c .plants)) ⌝ }
+    ensures { λ r. ⌜ r ≡ sidesOf (read (now («data» .entry))) scale (planEntry c (now (plan .entry))) (row 12 y g 0 0) ⌝ }
+{
+    let own = capped::product(1, planned_by_year_plant(plan, cat, c, CAP, y, g));
+    let earlier = earlier_cap(plan, cat, c, y, g);
+    if by_plant(data, at, c, KIND, g) != 0 {
+        return Sides {
+            above: own,
+            below: capped::add_product(
+                earlier,
+                1,
+                planned_by_year_plant(plan, cat, c, BUILD, y, g),
+            ),
+        };
+    }
+    if y == 0 {
+        return with_constant(own, earlier, scale, 0, by_plant(data, at, c, GEN_CAP, g));
+    }
+    Sides {
+        above: capped::add_product(own, 1, planned_by_year_plant(plan, cat, c, RETIRE, y, g)),
+        below: earlier,
+    }
+}
+
+// 13 (37): cap ≤ 0 for an existing plant from its retirement year on, for a candidate before its commission year
+pub fn life(
+    data: &[u32],
+    plan: &[u32],
+    outputs: &[u32],
+    reserves: &[u32],
+    energy: &[u64; 1280],
+    at: &[usize; 43],
+    cat: &[usize; 43],
+    c: Counts,
+    scale: u64,
+    y: usize,
+    g: usize,
+) -> Sides
+    requires { ⌜ Ready (now «data») (now plan) (now outputs) (now reserves) (now energy) (now at) (now cat) c y × ((y < c .years) × (g < c .plants)) ⌝ }
+    ensures { λ r. ⌜ r ≡ sidesOf (read (now («data» .entry))) scale (planEntry c (now (plan .entry))) (row 13 y g 0 0) ⌝ }
+{
+    if in_service(
+        by_plant(data, at, c, KIND, g),
+        by_plant(data, at, c, YEAR, g),
+        y,
+    ) {
+        return empty();
+    }
+    Sides {
+        above: capped::zero(),
+        below: capped::product(1, planned_by_year_plant(plan, cat, c, CAP, y, g)),
+    }
+}
+
+// 14 (61): existing: in the first year build + retire ≤ 0, later build ≤ 0; candidate: retire ≤ 0
+pub fn fixed(
+    data: &[u32],
+    plan: &[u32],
+    outputs: &[u32],
+    reserves: &[u32],
+    energy: &[u64; 1280],
+    at: &[usize; 43],
+    cat: &[usize; 43],
+    c: Counts,
+    scale: u64,
+    y: usize,
+    g: usize,
+) -> Sides
+    requires { ⌜ Ready (now «data») (now plan) (now outputs) (now reserves) (now energy) (now at) (now cat) c y × ((y < c .years) × (g < c .plants)) ⌝ }
+    ensures { λ r. ⌜ r ≡ sidesOf (read (now («data» .entry))) scale (planEntry c (now (plan .entry))) (row 14 y g 0 0) ⌝ }
+{
+    let retire = planned_by_year_plant(plan, cat, c, RETIRE, y, g);
+    if by_plant(data, at, c, KIND, g) != 0 {
+        return Sides {
+            above: capped::zero(),
+            below: capped::product(1, retire),
+        };
+    }
+    let build = capped::product(1, planned_by_year_plant(plan, cat, c, BUILD, y, g));
+    Sides {
+        above: capped::zero(),
+        below: capped::add_product_if(y == 0, build, 1, retire),
+    }
+}
+
+// 15 (55), candidate: Σ build ≤ MaxNewCap
+pub fn new_capacity(
+    data: &[u32],
+    plan: &[u32],
+    outputs: &[u32],
+    reserves: &[u32],
+    energy: &[u64; 1280],
+    at: &[usize; 43],
+    cat: &[usize; 43],
+    c: Counts,
+    scale: u64,
+    g: usize,
+) -> Sides
+    requires { ⌜ Ready (now «data») (now plan) (now outputs) (now reserves) (now energy) (now at) (now cat) c 0 × (g < c .plants) ⌝ }
+    ensures { λ r. ⌜ r ≡ sidesOf (read (now («data» .entry))) scale (planEntry c (now (plan .entry))) (row 15 0 g 0 0) ⌝ }
+{
+    if by_plant(data, at, c, KIND, g) == 0 {
+        return empty();
+    }
+    with_constant(
+        capped::zero(),
+        build_sum(plan, cat, c, g),
+        scale,
+        by_plant(data, at, c, MAX_NEW_CAP, g),
+        0,
+    )
+}
+
+// 16 (58), candidate: build ≤ BuildLimit·V
+pub fn yearly_build(
+    data: &[u32],
+    plan: &[u32],
+    outputs: &[u32],
+    reserves: &[u32],
+    energy: &[u64; 1280],
+    at: &[usize; 43],
+    cat: &[usize; 43],
+    c: Counts,
+    scale: u64,
+    y: usize,
+    g: usize,
+) -> Sides
+    requires { ⌜ Ready (now «data») (now plan) (now outputs) (now reserves) (now energy) (now at) (now cat) c y × ((y < c .years) × (g < c .plants)) ⌝ }
+    ensures { λ r. ⌜ r ≡ sidesOf (read (now («data» .entry))) scale (planEntry c (now (plan .entry))) (row 16 y g 0 0) ⌝ }
+{
+    if by_plant(data, at, c, KIND, g) == 0 {
+        return empty();
+    }
+    let limit = by_year(data, at, c, BUILD_LIMIT, y) * by_year(data, at, c, WEIGHT, y);
+    with_constant(
+        capped::zero(),
+        capped::product(1, planned_by_year_plant(plan, cat, c, BUILD, y, g)),
+        scale,
+        limit,
+        0,
+    )
+}
+
+// 17 (62): Σ Dur·HeatRate·gen of that zone and fuel ≤ 1000·MaxFuel
+pub fn fuel_use(
+    data: &[u32],
+    plan: &[u32],
+    outputs: &[u32],
+    reserves: &[u32],
+    energy: &[u64; 1280],
+    at: &[usize; 43],
+    cat: &[usize; 43],
+    c: Counts,
+    scale: u64,
+    y: usize,
+    z: usize,
+    f: usize,
+) -> Sides
+    requires { ⌜ Ready (now «data») (now plan) (now outputs) (now reserves) (now energy) (now at) (now cat) c y × ((y < c .years) × ((z < c .zones) × (f < c .fuels))) ⌝ }
+    ensures { λ r. ⌜ r ≡ sidesOf (read (now («data» .entry))) scale (planEntry c (now (plan .entry))) (row 17 y z f 0) ⌝ }
+{
+    let limit = 1000 * by_year_fuel(data, at, c, MAX_FUEL, y, f);
+    with_constant(
+        capped::zero(),
+        burned(data, at, c, energy, y, long(z), long(f)),
+        scale,
+        limit,
+        0,
+    )
+}
+
+// 18 (64): Σ R·V·Annuity·cap of candidates ≤ 10⁹·MaxCapital
+pub fn capital(
+    data: &[u32],
+    plan: &[u32],
+    outputs: &[u32],
+    reserves: &[u32],
+    energy: &[u64; 1280],
+    at: &[usize; 43],
+    cat: &[usize; 43],
+    c: Counts,
+    scale: u64,
+) -> Sides
+    requires { ⌜ Ready (now «data») (now plan) (now outputs) (now reserves) (now energy) (now at) (now cat) c 0 ⌝ }
+    ensures { λ r. ⌜ r ≡ sidesOf (read (now («data» .entry))) scale (planEntry c (now (plan .entry))) (row 18 0 0 0 0) ⌝ }
+{
+    let limit = 1000000000 * single(data, at, c, MAX_CAPITAL);
+    with_constant(
+        capped::zero(),
+        capital_sum(data, plan, at, cat, c),
+        scale,
+        limit,
+        0,
+    )
+}
+
+// 19 (66): Σ Dur·E·gen in z ≤ 1000·zone cap
+pub fn zone_emission(
+    data: &[u32],
+    plan: &[u32],
+    outputs: &[u32],
+    reserves: &[u32],
+    energy: &[u64; 1280],
+    at: &[usize; 43],
+    cat: &[usize; 43],
+    c: Counts,
+    scale: u64,
+    y: usize,
+    z: usize,
+) -> Sides
+    requires { ⌜ Ready (now «data») (now plan) (now outputs) (now reserves) (now energy) (now at) (now cat) c y × ((y < c .years) × (z < c .zones)) ⌝ }
+    ensures { λ r. ⌜ r ≡ sidesOf (read (now («data» .entry))) scale (planEntry c (now (plan .entry))) (row 19 y z 0 0) ⌝ }
+{
+    let limit = 1000 * by_year_zone(data, at, c, ZONE_CAP, y, z);
+    with_constant(
+        capped::zero(),
+        emitted_in(data, at, c, energy, y, long(z)),
+        scale,
+        limit,
+        0,
+    )
+}
+
+// 20 (68): Σ Dur·E·gen ≤ 1000·system cap
+pub fn system_emission(
+    data: &[u32],
+    plan: &[u32],
+    outputs: &[u32],
+    reserves: &[u32],
+    energy: &[u64; 1280],
+    at: &[usize; 43],
+    cat: &[usize; 43],
+    c: Counts,
+    scale: u64,
+    y: usize,
+) -> Sides
+    requires { ⌜ Ready (now «data») (now plan) (now outputs) (now reserves) (now energy) (now at) (now cat) c y × (y < c .years) ⌝ }
+    ensures { λ r. ⌜ r ≡ sidesOf (read (now («data» .entry))) scale (planEntry c (now (plan .entry))) (row 20 y 0 0 0) ⌝ }
+{
+    let limit = 1000 * by_year(data, at, c, SYSTEM_CAP, y);
+    with_constant(
+        capped::zero(),
+        emitted(data, at, c, energy, y),
+        scale,
+        limit,
+        0,
+    )
+}
+
+// The capacity of the year before, 0 before the first.
+fn earlier_cap(plan: &[u32], cat: &[usize; 43], c: Counts, y: usize, g: usize) -> Sum
+    requires { ⌜ Counted c × (Planned (now plan) (now cat) c × ((y < c .years) × (g < c .plants))) ⌝ }
+    ensures { λ r. ⌜ r ≡ cap (on (ltb 0 y) (1 * planEntry c (now (plan .entry)) (capColumn (y - 1) g))) ⌝ }
+{
+    if 0 < y {
+        return capped::product(1, planned_by_year_plant(plan, cat, c, CAP, y - 1, g));
+    }
+    capped::zero()
+}
+
+// Whether a plant of this kind and year of retirement or commission may have capacity in year y, counted from 0.
+fn in_service(kind: u64, year: u64, y: usize) -> bool
+    requires { ⌜ y < 10 ⌝ }
+    ensures { λ r. ⌜ r ≡ not ((eqb kind 0 && leb year (y + 1)) || (not (eqb kind 0) && ltb (y + 1) year)) ⌝ }
+{
+    let now = long(y) + 1;
+    if kind == 0 {
+        return now < year;
+    }
+    year <= now
+}

@@ -1,0 +1,4 @@
+pub mod Laws
+pub mod Within
+pub mod Walk
+pub mod Passed
