@@ -57,7 +57,7 @@ module _ {plan cat : List ℕ} {c : Counts} {y places : ℕ} (few : Counted c) (
   pub part-asked : (getD cat t 0 + (y + 1) * places ≤ length plan) × ((places ≤ 12288) × (y < 10))
   part-asked = (part-end, (omega (arith, few-places few), omega (arith, few .fewYears)))
 
-  part-is : {part : List ℕ} → part ≡ take places (drop (getD cat t 0 + y * places) plan) → YearPart plan part c t y
+  pub part-is : {part : List ℕ} → part ≡ take places (drop (getD cat t 0 + y * places) plan) → YearPart plan part c t y
   part-is h =
       let from = getD cat t 0 + y * places in
       record {
