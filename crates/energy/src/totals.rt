@@ -1,4 +1,4 @@
-// The plants' energy Σ Dur·gen by year and season, summed once and used by families 10, 17, 19, 20 and by the cost.
+// The plants' energy Σ Dur·gen by year and season, summed once and used by families 10, 17, 19 and 20.
 use capped::Sum;
 use model::Counts;
 use parts::slices::both;
@@ -24,16 +24,7 @@ ghost use Rattle.tables.specs.Layout.{Counted, Laid, Planned, planEntry};
 ghost use Rattle.energy.specs.Energies.{Energies, yearEnergy};
 
 // Σ Dur·gen of a plant over the slices of season q.
-fn season_energy(
-    data: &[u32],
-    plan: &[u32],
-    at: &[usize; 43],
-    cat: &[usize; 43],
-    c: Counts,
-    y: usize,
-    g: usize,
-    q: usize,
-) -> Sum
+fn season_energy(data: &[u32], plan: &[u32], at: &[usize; 43], cat: &[usize; 43], c: Counts, y: usize, g: usize, q: usize) -> Sum
     requires { ⌜ Laid (now «data») (now at) c × (Planned (now plan) (now cat) c × ((y < c .years) × ((g < c .plants) × (q < c .seasons)))) ⌝ }
     ensures { λ r. ⌜ r ≡ cap (seasonSum (read (now («data» .entry))) q (λ s. duration (read (now («data» .entry))) s * planEntry c (now (plan .entry)) (genColumn y g s))) ⌝ }
 {
@@ -52,14 +43,7 @@ fn season_energy(
 }
 
 // The energies of every year, plant and season.
-pub fn fill_energies(
-    data: &[u32],
-    plan: &[u32],
-    at: &[usize; 43],
-    cat: &[usize; 43],
-    c: Counts,
-    energy: &mut [u64; 1280],
-)
+pub fn fill_energies(data: &[u32], plan: &[u32], at: &[usize; 43], cat: &[usize; 43], c: Counts, energy: &mut [u64; 1280])
     requires { ⌜ Laid (now «data») (now at) c × (Planned (now plan) (now cat) c × (length (now energy) ≡ 1280)) ⌝ }
     ensures { λ _. ⌜ Energies (read (now («data» .entry))) (planEntry c (now (plan .entry))) (now (energy .exit)) c ⌝ }
 {
@@ -83,15 +67,7 @@ pub fn energy_at(energy: &[u64; 1280], c: Counts, y: usize, g: usize, q: usize) 
 }
 
 // factor·Σ of a plant's energies over the seasons of year y, added to a sum where a test holds.
-fn add_energy_if(
-    here: bool,
-    total: Sum,
-    factor: u64,
-    energy: &[u64; 1280],
-    c: Counts,
-    y: usize,
-    g: usize,
-) -> Sum
+fn add_energy_if(here: bool, total: Sum, factor: u64, energy: &[u64; 1280], c: Counts, y: usize, g: usize) -> Sum
     requires { ⌜ Counted c × ((length (now energy) ≡ 1280) × ((y < c .years) × (g < c .plants))) ⌝ }
     ensures { λ r. ⌜ ((m : ℕ) → total ≡ cap m → r ≡ cap (m + on here (yearEnergy c (now (energy .entry)) factor y g))) ⌝ }
 {
@@ -107,15 +83,7 @@ fn add_energy_if(
 }
 
 // Σ Dur·HeatRate·gen over the plants of zone z and fuel f, in year y.
-pub fn burned(
-    data: &[u32],
-    at: &[usize; 43],
-    c: Counts,
-    energy: &[u64; 1280],
-    y: usize,
-    z: u64,
-    f: u64,
-) -> Sum
+pub fn burned(data: &[u32], at: &[usize; 43], c: Counts, energy: &[u64; 1280], y: usize, z: u64, f: u64) -> Sum
     requires { ⌜ Laid (now «data») (now at) c × ((length (now energy) ≡ 1280) × (y < c .years)) ⌝ }
     ensures { λ r. ⌜ r ≡ cap (sum (c .plants) (λ g. on (eqb (zone (read (now («data» .entry))) g) z) (on (eqb (fuel (read (now («data» .entry))) g) f) (yearEnergy c (now (energy .entry)) (heatRate (read (now («data» .entry))) g) y g)))) ⌝ }
 {
@@ -139,14 +107,7 @@ pub fn burned(
 }
 
 // Σ Dur·E·gen over the plants of zone z, in year y.
-pub fn emitted_in(
-    data: &[u32],
-    at: &[usize; 43],
-    c: Counts,
-    energy: &[u64; 1280],
-    y: usize,
-    z: u64,
-) -> Sum
+pub fn emitted_in(data: &[u32], at: &[usize; 43], c: Counts, energy: &[u64; 1280], y: usize, z: u64) -> Sum
     requires { ⌜ Laid (now «data») (now at) c × ((length (now energy) ≡ 1280) × (y < c .years)) ⌝ }
     ensures { λ r. ⌜ r ≡ cap (sum (c .plants) (λ g. on (eqb (zone (read (now («data» .entry))) g) z) (yearEnergy c (now (energy .entry)) (emission (read (now («data» .entry))) g) y g))) ⌝ }
 {

@@ -30,11 +30,12 @@ use Rattle.model.specs.declared.Counts.{Counts}
 use Rattle.model.specs.declared.Shape.{Shape}
 use Rattle.model.specs.Data.{countsOf}
 use Rattle.model.specs.Columns.{columnSets, columnNumber, gen}
+use Rattle.model.specs.Families.{shapeOf}
 use Rattle.model.specs.declared.Refusal.the-variants.{Board}
 use Rattle.model.specs.Counts.{slicesOf}
 use Rattle.model.specs.Data.{Y, G, S}
 use Rattle.model.proofs.Sound.{passed, both}
-use Rattle.tables.specs.Layout.{Counted, Planned, shapeOf, startFrom}
+use Rattle.tables.specs.Layout.{Counted, Planned, startFrom}
 use Rattle.tables.proofs.Laws.{start-at}
 use Rattle.tables.proofs.Passed.{outcome-fine, sound-counts}
 use Rattle.epm.specs.Answers.{planTest, rowsAndCost}

@@ -1,9 +1,7 @@
 // The published calls: check and post. Each takes any lists, and answers on every input.
 pub mod tests;
-pub mod board;
 
 use capped::Amount;
-use crate::board::replace;
 use crate::tests::board_fits;
 use crate::tests::test_plan;
 use energy::totals::fill_energies;
@@ -11,6 +9,7 @@ use model::Answer;
 use model::Counts;
 use model::Outcome;
 use model::Refusal;
+use parts::board::replace;
 use parts::years::year_part;
 use prices::cost_of;
 use rows::walk::test_rows;

@@ -8,9 +8,10 @@ use lib.ListN.{getD}
 use Rattle.sums.specs.Sum.{sum, on}
 use Rattle.sums.specs.Span.{Span}
 use Rattle.sums.specs.declared.Box.{Box}
-use Rattle.sums.specs.Index.{Index, index, boxOf, members, number}
+use Rattle.sums.specs.Index.{Index, index, boxOf, volume, members, number}
 use Rattle.sums.specs.Linear.{Linear, nothing, _·_, ∑, _⊕_, when}
 use Rattle.model.specs.declared.Family.{Family}
+use Rattle.model.specs.declared.Shape.{Shape}
 use Rattle.model.specs.Counts.{Counts, sets, [yzs], [yzzs], [yz], [ygs], [ygq], [yg], [g], [yzf], [one], [y]}
 use Rattle.model.specs.Data.{Data, rate, weight, duration, zone, fuel, genCap, year, maxNewCap, overLoad, resOffer, rampDn, rampUp, minCapFac, capCredit, heatRate, emission, availability, profile, annuity, demand, ee, sRes, prm, tl, loss, zoneCap, systemCap, maxFuel, buildLimit, err, maxCapital, Z, G, Q, Y, S, P, existing, candidate, season, afterFirstHour, onMinLoadDay, isVre, peak}
 use Rattle.model.specs.Columns.{cap, build, retire, gen, reserve, trans, unmet, surplus, spinshort, firmshort}
@@ -48,6 +49,10 @@ familyOf k = getD families k (family 0 0 false)
 
 unfoldable pub rowBoxes : Counts → List Box
 rowBoxes c = map (λ f. boxOf (sets c) (f .set)) families
+
+-- the counts and the twenty family sizes that follow from them, in one record
+unfoldable pub shapeOf : Counts → Shape
+shapeOf c = record { counts = c; sizes = map (λ (b : Box). volume b) (rowBoxes c) }
 
 -- all rows in order
 abbrev pub rows : Data → Span Index

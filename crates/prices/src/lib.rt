@@ -56,14 +56,7 @@ fn yearly_price(data: &[u32], at: &[usize; 43], c: Counts, y: usize, g: usize) -
 }
 
 // Σ price·cap in year y.
-fn cap_cost(
-    data: &[u32],
-    plan: &[u32],
-    at: &[usize; 43],
-    cat: &[usize; 43],
-    c: Counts,
-    y: usize,
-) -> Sum
+fn cap_cost(data: &[u32], plan: &[u32], at: &[usize; 43], cat: &[usize; 43], c: Counts, y: usize) -> Sum
     requires { ⌜ Laid (now «data») (now at) c × (Planned (now plan) (now cat) c × (y < c .years)) ⌝ }
     ensures { λ r. ⌜ r ≡ cap (capCost (read (now («data» .entry))) c (planEntry c (now (plan .entry))) y) ⌝ }
 {
@@ -82,14 +75,7 @@ fn cap_cost(
 }
 
 // Σ price·firmshort in year y.
-fn firmshort_cost(
-    data: &[u32],
-    plan: &[u32],
-    at: &[usize; 43],
-    cat: &[usize; 43],
-    c: Counts,
-    y: usize,
-) -> Sum
+fn firmshort_cost(data: &[u32], plan: &[u32], at: &[usize; 43], cat: &[usize; 43], c: Counts, y: usize) -> Sum
     requires { ⌜ Laid (now «data») (now at) c × (Planned (now plan) (now cat) c × (y < c .years)) ⌝ }
     ensures { λ r. ⌜ r ≡ cap (firmshortCost (read (now («data» .entry))) c (planEntry c (now (plan .entry))) y) ⌝ }
 {
@@ -149,14 +135,7 @@ fn firsts_of(c: Counts, t: usize) -> usize
 }
 
 // The slices of plant or zone i in year y: a part of the plan.
-fn slices_at<'a>(
-    plan: &'a [u32],
-    cat: &[usize; 43],
-    c: Counts,
-    t: usize,
-    y: usize,
-    i: usize,
-) -> &'a [u32]
+fn slices_at<'a>(plan: &'a [u32], cat: &[usize; 43], c: Counts, t: usize, y: usize, i: usize) -> &'a [u32]
     requires { ⌜ Hours (now plan) (now cat) c t y i ⌝ }
     ensures { λ r. ⌜ (length (now r) ≡ slicesOf c) × ((s : ℕ) → s < slicesOf c → getD (now r) s 0 ≡ planEntry c (now (plan .entry)) (index t y i 0 s)) ⌝ }
 {
@@ -193,16 +172,7 @@ fn wide(x: u32) -> u64
 }
 
 // Σ price·entry over the slices of plant or zone i in year y: the hours are summed first and priced once.
-fn slices_cost(
-    data: &[u32],
-    plan: &[u32],
-    at: &[usize; 43],
-    cat: &[usize; 43],
-    c: Counts,
-    t: usize,
-    y: usize,
-    i: usize,
-) -> Sum
+fn slices_cost(data: &[u32], plan: &[u32], at: &[usize; 43], cat: &[usize; 43], c: Counts, t: usize, y: usize, i: usize) -> Sum
     requires { ⌜ Laid (now «data») (now at) c × Hours (now plan) (now cat) c t y i ⌝ }
     ensures { λ r. ⌜ r ≡ cap (slicesCost (read (now («data» .entry))) c (planEntry c (now (plan .entry))) t y i) ⌝ }
 {
@@ -213,15 +183,7 @@ fn slices_cost(
 }
 
 // Σ price·entry of a table priced by the hour, in year y.
-fn hourly_cost(
-    data: &[u32],
-    plan: &[u32],
-    at: &[usize; 43],
-    cat: &[usize; 43],
-    c: Counts,
-    t: usize,
-    y: usize,
-) -> Sum
+fn hourly_cost(data: &[u32], plan: &[u32], at: &[usize; 43], cat: &[usize; 43], c: Counts, t: usize, y: usize) -> Sum
     requires { ⌜ Laid (now «data») (now at) c × (Planned (now plan) (now cat) c × (Hourly t × (y < c .years))) ⌝ }
     ensures { λ r. ⌜ r ≡ cap (hourlyCost (read (now («data» .entry))) c (planEntry c (now (plan .entry))) t y) ⌝ }
 {
@@ -234,14 +196,7 @@ fn hourly_cost(
 }
 
 // Σ price·entry of all tables priced by the hour, in year y.
-fn hours_cost(
-    data: &[u32],
-    plan: &[u32],
-    at: &[usize; 43],
-    cat: &[usize; 43],
-    c: Counts,
-    y: usize,
-) -> Sum
+fn hours_cost(data: &[u32], plan: &[u32], at: &[usize; 43], cat: &[usize; 43], c: Counts, y: usize) -> Sum
     requires { ⌜ Laid (now «data») (now at) c × (Planned (now plan) (now cat) c × (y < c .years)) ⌝ }
     ensures { λ r. ⌜ r ≡ cap (hoursCost (read (now («data» .entry))) c (planEntry c (now (plan .entry))) y) ⌝ }
 {
@@ -256,14 +211,7 @@ fn hours_cost(
 }
 
 // Σ price·entry in year y; build, retire and trans have no price.
-fn year_cost(
-    data: &[u32],
-    plan: &[u32],
-    at: &[usize; 43],
-    cat: &[usize; 43],
-    c: Counts,
-    y: usize,
-) -> Sum
+fn year_cost(data: &[u32], plan: &[u32], at: &[usize; 43], cat: &[usize; 43], c: Counts, y: usize) -> Sum
     requires { ⌜ Laid (now «data») (now at) c × (Planned (now plan) (now cat) c × (y < c .years)) ⌝ }
     ensures { λ r. ⌜ r ≡ cap (yearCost (read (now («data» .entry))) c (planEntry c (now (plan .entry))) y) ⌝ }
 {

@@ -15,10 +15,11 @@ use Rattle.capped.specs.Cap.{cap, plus, plusIf, both}
 use Rattle.capped.proofs.Laws.{plus-cap, both-cap, le-or-lt}
 use Rattle.sums.specs.Sum.{sum, on}
 use Rattle.sums.specs.Span.{fine}
-use Rattle.sums.specs.Index.{index}
+use Rattle.sums.specs.declared.Box.{Box}
+use Rattle.sums.specs.Index.{index, boxOf}
 use Rattle.sums.proofs.Sums.{sum-cong}
 use Rattle.model.specs.declared.Counts.{Counts}
-use Rattle.model.specs.Counts.{slicesOf, [yzs], [yz]}
+use Rattle.model.specs.Counts.{sets, slicesOf, [yzs], [yz]}
 use Rattle.model.specs.Data.{read, prm, tableBoxes}
 use Rattle.model.specs.Families.{familyOf}
 use Rattle.model.specs.Tests.{entriesFault}
@@ -54,6 +55,7 @@ nothing-plus u e = e ∙ ap cap (sym (zero-add u))
 pub plus-if-is : {r s : Sum} {n v : ℕ} (b : Bool) (m a : ℕ) → r ≡ plusIf b s (a * n) → s ≡ cap m → n ≡ v → r ≡ cap (m + on b (a * v))
 plus-if-is {v = v} b m a e h q = e ∙ rw (h, q) (plus-on b m (a * v))
 
+-- a product of two entries, or of a number and an entry
 pub times-is : {a b u v : ℕ} → a ≡ u → b ≡ v → a * b ≡ u * v
 times-is e h = ap₂ (λ (m n : ℕ). m * n) e h
 
@@ -63,9 +65,7 @@ pub part-sum : {plan part : List ℕ} {c : Counts} {t y s : ℕ} → YearPart pl
     → r ≡ cap (sum (c .plants) (λ g. F z g (planEntry c plan (index t y g 0 s))))
 part-sum p h {z = z} F e q = e ∙ rw q (ap cap (sum-cong _ (λ g l. ap (F z g) (p .is g _ l h))))
 
--- Rows
-
--- a row's two sums: without a constant, with one, and where its condition fails
+-- A row's two sums: without a constant, with one, and where its condition fails
 
 module _ (N u v : ℕ) {a b : Sum} where
   pub plain : a ≡ cap u → b ≡ cap v → _≡_ {A = Sides} (record { above = a; below = b }) (record { above = cap (u + N * (0 - 0)); below = cap (v + N * (0 - 0)) })
@@ -82,14 +82,14 @@ no-terms N e = e ∙ plain N 0 0 refl refl
 
 -- Tests
 
--- a test by the code, as a flag of the document's number
+-- what the code's test of a number a says of the document's number b: as a flag, so that the parts under it compute
 pub flag-on : {a b : ℕ} (n : ℕ) → a ≡ b → a ≡ n → eqb b n ≡ true
 flag-on n e h = eq-eqb _ n (sym e ∙ h)
 
 pub flag-off : {a b : ℕ} (n : ℕ) → a ≡ b → (a ≡ n → ⊥) → eqb b n ≡ false
 flag-off n e h = ne-eqb _ n (λ q. h (e ∙ q))
 
--- t = 0 and t > 0
+-- the first hour of a day, t = 0, and a later one
 pub first-hour : {b : Bool} (t : ℕ) → b ≡ eqb t 0 → b ≡ true → ltb 0 t ≡ false
 first-hour t e h = let z = eqb-true t 0 (sym e ∙ h) in le-ltb 0 t (omega arith)
 
@@ -137,11 +137,24 @@ pub few-prm : {l at : List ℕ} {c : Counts} {z : ℕ} → Laid l at c → entri
 unfolding tableBoxes
 few-prm {l} {z = z} n e h = entry-range (read l) e 28 0 z 0 0 (omega arith, omega arith, rw (n .counts) h, omega arith, omega arith) .1
 
--- The dispatcher
+-- The dispatcher: what an arm knows of the four indices, by its key
 
 pub inside-at : {c : Counts} {k y i j s : ℕ} (K : ℕ) → k ≡ K → Inside c (familyOf k .set) y i j s → Inside c (familyOf K .set) y i j s
 inside-at K e m = rw e at m
 
+-- the arms of the families with a year, a first index and a slice, and of those with a year and a first index
+module _ {l plan os rs energy at cat : List ℕ} {c : Counts} {k y i j s : ℕ} (K : ℕ) (e : k ≡ K)
+    (p : Ready l plan os rs energy at cat c y × ((k < 20) × Inside c (familyOf k .set) y i j s)) where
+  abbrev own : Box
+  own = boxOf (sets c) (familyOf K .set)
+
+  pub by-slice : Ready l plan os rs energy at cat c y × ((y < own .years) × ((i < own .firsts) × (s < own .slices)))
+  by-slice = let m = inside-at K e (p .1 .1) in (p .0, (m .year, (m .first, m .slice)))
+
+  pub by-first : Ready l plan os rs energy at cat c y × ((y < own .years) × (i < own .firsts))
+  by-first = let m = inside-at K e (p .1 .1) in (p .0, (m .year, m .first))
+
 -- what the row functions of families 15 and 18, which have no year, work on
-pub first-year : {l plan os rs energy at cat : List ℕ} {c : Counts} {y : ℕ} → y < 1 → Ready l plan os rs energy at cat c y → Ready l plan os rs energy at cat c 0
+pub first-year : {l plan os rs energy at cat : List ℕ} {c : Counts} {y : ℕ} → y < 1 → Ready l plan os rs energy at cat c y
+    → Ready l plan os rs energy at cat c 0
 first-year {y = y} h r = let z : y ≡ 0 = omega arith in rw z at r

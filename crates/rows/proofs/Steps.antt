@@ -28,44 +28,9 @@ use Rattle.model.specs.Tests.{entriesFault, rowFault, rowsFault}
 use Rattle.tables.specs.Layout.{Counted, Laid, Planned, Column, Inside, Small, outcome, planEntry}
 use Rattle.tables.proofs.Laws.{getD-map-in, column-below, column-is}
 use Rattle.parts.specs.Years.{YearPart}
-use Rattle.parts.proofs.Laws.{part-below, few-places}
+use Rattle.parts.proofs.Parts.{part-is}
 use Rattle.energy.specs.Energies.{Energies}
 use Rattle.rows.specs.Ready.{Ready}
-
--- The year's parts
-
-pub places-are : (c : Counts) {n : ℕ} → n ≡ slicesOf c → c .plants * n ≡ c .plants * slicesOf c
-places-are c e = ap (λ (n : ℕ). c .plants * n) e
-
-module _ {plan cat : List ℕ} {c : Counts} {y places : ℕ} (few : Counted c) (p : Planned plan cat c) (hy : y < c .years) (q : places ≡ c .plants * slicesOf c)
-    (t : ℕ) (ht : t < 10) (e : getD columnSets t 0 ≡ [ygs]) where
-  column : (g s : ℕ) → g < c .plants → s < slicesOf c → Column plan cat c t [ygs] y g 0 s
-  column g s hg hs =
-      record { planned = p; counted = few; table = ht; set = e; inside = record { year = hy; «first» = hg; second = omega arith; slice = hs } }
-
-  -- its last entry is in the plan, so its end is
-  part-end : getD cat t 0 + (y + 1) * places ≤ length plan
-  part-end =
-      let some : 0 < slicesOf c = mul-pos (mul-pos (few .someSeasons) (few .someDays)) (few .someHours) in
-      let g = c .plants - 1 in
-      let hg : g < c .plants = omega (arith, few .somePlants) in
-      let s = slicesOf c - 1 in
-      let hs : s < slicesOf c = omega arith in
-      let last : suc g ≡ c .plants = omega arith in
-      rw q (omega (arith, column-below (column g s hg hs), suc-mul g (slicesOf c), ap (λ (v : ℕ). v * slicesOf c) last))
-
-  pub part-asked : (getD cat t 0 + (y + 1) * places ≤ length plan) × ((places ≤ 12288) × (y < 10))
-  part-asked = (part-end, (omega (arith, few-places few), omega (arith, few .fewYears)))
-
-  pub part-is : {part : List ℕ} → part ≡ take places (drop (getD cat t 0 + y * places) plan) → YearPart plan part c t y
-  part-is h =
-      let from = getD cat t 0 + y * places in
-      record {
-        long = ap length h ∙ length-take-le places (drop from plan) (omega (arith, length-drop from plan, part-end)) ∙ q;
-        is = λ g s hg hs.
-            rw (h, getD-take places (drop from plan) (g * slicesOf c + s) 0 (rw q (part-below few g s hg hs)), getD-drop)
-            (ap (λ (n : ℕ). getD plan n 0) (rw q (omega arith)) ∙ column-is (column g s hg hs));
-      }
 
 -- what a row's test works on
 pub ready : {l plan os rs energy at cat : List ℕ} {c : Counts} {y places : ℕ}

@@ -33,18 +33,8 @@ ghost use Rattle.rows.specs.Ready.{Ready, sidesOf};
 
 // 5 (22): 1000·(gen + reserve) ≤ (1000 + OverLoad)·cap
 pub fn loading(
-    data: &[u32],
-    plan: &[u32],
-    outputs: &[u32],
-    reserves: &[u32],
-    energy: &[u64; 1280],
-    at: &[usize; 43],
-    cat: &[usize; 43],
-    c: Counts,
-    scale: u64,
-    y: usize,
-    g: usize,
-    s: usize,
+    data: &[u32], plan: &[u32], outputs: &[u32], reserves: &[u32], energy: &[u64; 1280], at: &[usize; 43],
+    cat: &[usize; 43], c: Counts, scale: u64, y: usize, g: usize, s: usize,
 ) -> Sides
     requires { ⌜ Ready (now «data») (now plan) (now outputs) (now reserves) (now energy) (now at) (now cat) c y × ((y < c .years) × ((g < c .plants) × (s < slicesOf c))) ⌝ }
     ensures { λ r. ⌜ r ≡ sidesOf (read (now («data» .entry))) scale (planEntry c (now (plan .entry))) (row 5 y g 0 s) ⌝ }
@@ -60,18 +50,8 @@ pub fn loading(
 
 // 6 (23): 1000·reserve ≤ ResOffer·cap
 pub fn offer(
-    data: &[u32],
-    plan: &[u32],
-    outputs: &[u32],
-    reserves: &[u32],
-    energy: &[u64; 1280],
-    at: &[usize; 43],
-    cat: &[usize; 43],
-    c: Counts,
-    scale: u64,
-    y: usize,
-    g: usize,
-    s: usize,
+    data: &[u32], plan: &[u32], outputs: &[u32], reserves: &[u32], energy: &[u64; 1280], at: &[usize; 43],
+    cat: &[usize; 43], c: Counts, scale: u64, y: usize, g: usize, s: usize,
 ) -> Sides
     requires { ⌜ Ready (now «data») (now plan) (now outputs) (now reserves) (now energy) (now at) (now cat) c y × ((y < c .years) × ((g < c .plants) × (s < slicesOf c))) ⌝ }
     ensures { λ r. ⌜ r ≡ sidesOf (read (now («data» .entry))) scale (planEntry c (now (plan .entry))) (row 6 y g 0 s) ⌝ }
@@ -88,18 +68,8 @@ pub fn offer(
 
 // 7 (24), t > 0: 1000·(gen[s−1] − gen[s]) ≤ RampDn·cap
 pub fn ramp_down(
-    data: &[u32],
-    plan: &[u32],
-    outputs: &[u32],
-    reserves: &[u32],
-    energy: &[u64; 1280],
-    at: &[usize; 43],
-    cat: &[usize; 43],
-    c: Counts,
-    scale: u64,
-    y: usize,
-    g: usize,
-    s: usize,
+    data: &[u32], plan: &[u32], outputs: &[u32], reserves: &[u32], energy: &[u64; 1280], at: &[usize; 43],
+    cat: &[usize; 43], c: Counts, scale: u64, y: usize, g: usize, s: usize,
 ) -> Sides
     requires { ⌜ Ready (now «data») (now plan) (now outputs) (now reserves) (now energy) (now at) (now cat) c y × ((y < c .years) × ((g < c .plants) × (s < slicesOf c))) ⌝ }
     ensures { λ r. ⌜ r ≡ sidesOf (read (now («data» .entry))) scale (planEntry c (now (plan .entry))) (row 7 y g 0 s) ⌝ }
@@ -120,18 +90,8 @@ pub fn ramp_down(
 
 // 8 (25), t > 0: 1000·(gen[s] − gen[s−1]) ≤ RampUp·cap
 pub fn ramp_up(
-    data: &[u32],
-    plan: &[u32],
-    outputs: &[u32],
-    reserves: &[u32],
-    energy: &[u64; 1280],
-    at: &[usize; 43],
-    cat: &[usize; 43],
-    c: Counts,
-    scale: u64,
-    y: usize,
-    g: usize,
-    s: usize,
+    data: &[u32], plan: &[u32], outputs: &[u32], reserves: &[u32], energy: &[u64; 1280], at: &[usize; 43],
+    cat: &[usize; 43], c: Counts, scale: u64, y: usize, g: usize, s: usize,
 ) -> Sides
     requires { ⌜ Ready (now «data») (now plan) (now outputs) (now reserves) (now energy) (now at) (now cat) c y × ((y < c .years) × ((g < c .plants) × (s < slicesOf c))) ⌝ }
     ensures { λ r. ⌜ r ≡ sidesOf (read (now («data» .entry))) scale (planEntry c (now (plan .entry))) (row 8 y g 0 s) ⌝ }
@@ -152,18 +112,8 @@ pub fn ramp_up(
 
 // 9 (26), minimum-load days: 1000·gen ≥ MinCapFac·cap
 pub fn minimum_load(
-    data: &[u32],
-    plan: &[u32],
-    outputs: &[u32],
-    reserves: &[u32],
-    energy: &[u64; 1280],
-    at: &[usize; 43],
-    cat: &[usize; 43],
-    c: Counts,
-    scale: u64,
-    y: usize,
-    g: usize,
-    s: usize,
+    data: &[u32], plan: &[u32], outputs: &[u32], reserves: &[u32], energy: &[u64; 1280], at: &[usize; 43],
+    cat: &[usize; 43], c: Counts, scale: u64, y: usize, g: usize, s: usize,
 ) -> Sides
     requires { ⌜ Ready (now «data») (now plan) (now outputs) (now reserves) (now energy) (now at) (now cat) c y × ((y < c .years) × ((g < c .plants) × (s < slicesOf c))) ⌝ }
     ensures { λ r. ⌜ r ≡ sidesOf (read (now («data» .entry))) scale (planEntry c (now (plan .entry))) (row 9 y g 0 s) ⌝ }
@@ -183,18 +133,8 @@ pub fn minimum_load(
 
 // 10 (27): 1000·Σ Dur·gen ≤ Availability·(Σ Dur)·cap, over the season
 pub fn available(
-    data: &[u32],
-    plan: &[u32],
-    outputs: &[u32],
-    reserves: &[u32],
-    energy: &[u64; 1280],
-    at: &[usize; 43],
-    cat: &[usize; 43],
-    c: Counts,
-    scale: u64,
-    y: usize,
-    g: usize,
-    q: usize,
+    data: &[u32], plan: &[u32], outputs: &[u32], reserves: &[u32], energy: &[u64; 1280], at: &[usize; 43],
+    cat: &[usize; 43], c: Counts, scale: u64, y: usize, g: usize, q: usize,
 ) -> Sides
     requires { ⌜ Ready (now «data») (now plan) (now outputs) (now reserves) (now energy) (now at) (now cat) c y × ((y < c .years) × ((g < c .plants) × (q < c .seasons))) ⌝ }
     ensures { λ r. ⌜ r ≡ sidesOf (read (now («data» .entry))) scale (planEntry c (now (plan .entry))) (row 10 y g 0 q) ⌝ }
@@ -214,18 +154,8 @@ pub fn available(
 
 // 11 (28), VRE: 1000·gen ≤ Profile·cap
 pub fn profiled(
-    data: &[u32],
-    plan: &[u32],
-    outputs: &[u32],
-    reserves: &[u32],
-    energy: &[u64; 1280],
-    at: &[usize; 43],
-    cat: &[usize; 43],
-    c: Counts,
-    scale: u64,
-    y: usize,
-    g: usize,
-    s: usize,
+    data: &[u32], plan: &[u32], outputs: &[u32], reserves: &[u32], energy: &[u64; 1280], at: &[usize; 43],
+    cat: &[usize; 43], c: Counts, scale: u64, y: usize, g: usize, s: usize,
 ) -> Sides
     requires { ⌜ Ready (now «data») (now plan) (now outputs) (now reserves) (now energy) (now at) (now cat) c y × ((y < c .years) × ((g < c .plants) × (s < slicesOf c))) ⌝ }
     ensures { λ r. ⌜ r ≡ sidesOf (read (now («data» .entry))) scale (planEntry c (now (plan .entry))) (row 11 y g 0 s) ⌝ }

@@ -43,17 +43,8 @@ ghost use Rattle.rows.specs.Ready.{Ready, sidesOf};
 
 // 12 (34): existing, first year: cap = GenCap; later: cap = earlier cap − retire. Candidate: cap = earlier cap (0 in the first year) + build
 pub fn stock(
-    data: &[u32],
-    plan: &[u32],
-    outputs: &[u32],
-    reserves: &[u32],
-    energy: &[u64; 1280],
-    at: &[usize; 43],
-    cat: &[usize; 43],
-    c: Counts,
-    scale: u64,
-    y: usize,
-    g: usize,
+    data: &[u32], plan: &[u32], outputs: &[u32], reserves: &[u32], energy: &[u64; 1280], at: &[usize; 43],
+    cat: &[usize; 43], c: Counts, scale: u64, y: usize, g: usize,
 ) -> Sides
     requires { ⌜ Ready (now «data») (now plan) (now outputs) (now reserves) (now energy) (now at) (now cat) c y × ((y < c .years) × (g < c .plants)) ⌝ }
     ensures { λ r. ⌜ r ≡ sidesOf (read (now («data» .entry))) scale (planEntry c (now (plan .entry))) (row 12 y g 0 0) ⌝ }
@@ -81,17 +72,8 @@ pub fn stock(
 
 // 13 (37): cap ≤ 0 for an existing plant from its retirement year on, for a candidate before its commission year
 pub fn life(
-    data: &[u32],
-    plan: &[u32],
-    outputs: &[u32],
-    reserves: &[u32],
-    energy: &[u64; 1280],
-    at: &[usize; 43],
-    cat: &[usize; 43],
-    c: Counts,
-    scale: u64,
-    y: usize,
-    g: usize,
+    data: &[u32], plan: &[u32], outputs: &[u32], reserves: &[u32], energy: &[u64; 1280], at: &[usize; 43],
+    cat: &[usize; 43], c: Counts, scale: u64, y: usize, g: usize,
 ) -> Sides
     requires { ⌜ Ready (now «data») (now plan) (now outputs) (now reserves) (now energy) (now at) (now cat) c y × ((y < c .years) × (g < c .plants)) ⌝ }
     ensures { λ r. ⌜ r ≡ sidesOf (read (now («data» .entry))) scale (planEntry c (now (plan .entry))) (row 13 y g 0 0) ⌝ }
@@ -111,17 +93,8 @@ pub fn life(
 
 // 14 (61): existing: in the first year build + retire ≤ 0, later build ≤ 0; candidate: retire ≤ 0
 pub fn fixed(
-    data: &[u32],
-    plan: &[u32],
-    outputs: &[u32],
-    reserves: &[u32],
-    energy: &[u64; 1280],
-    at: &[usize; 43],
-    cat: &[usize; 43],
-    c: Counts,
-    scale: u64,
-    y: usize,
-    g: usize,
+    data: &[u32], plan: &[u32], outputs: &[u32], reserves: &[u32], energy: &[u64; 1280], at: &[usize; 43],
+    cat: &[usize; 43], c: Counts, scale: u64, y: usize, g: usize,
 ) -> Sides
     requires { ⌜ Ready (now «data») (now plan) (now outputs) (now reserves) (now energy) (now at) (now cat) c y × ((y < c .years) × (g < c .plants)) ⌝ }
     ensures { λ r. ⌜ r ≡ sidesOf (read (now («data» .entry))) scale (planEntry c (now (plan .entry))) (row 14 y g 0 0) ⌝ }
@@ -142,16 +115,8 @@ pub fn fixed(
 
 // 15 (55), candidate: Σ build ≤ MaxNewCap
 pub fn new_capacity(
-    data: &[u32],
-    plan: &[u32],
-    outputs: &[u32],
-    reserves: &[u32],
-    energy: &[u64; 1280],
-    at: &[usize; 43],
-    cat: &[usize; 43],
-    c: Counts,
-    scale: u64,
-    g: usize,
+    data: &[u32], plan: &[u32], outputs: &[u32], reserves: &[u32], energy: &[u64; 1280], at: &[usize; 43],
+    cat: &[usize; 43], c: Counts, scale: u64, g: usize,
 ) -> Sides
     requires { ⌜ Ready (now «data») (now plan) (now outputs) (now reserves) (now energy) (now at) (now cat) c 0 × (g < c .plants) ⌝ }
     ensures { λ r. ⌜ r ≡ sidesOf (read (now («data» .entry))) scale (planEntry c (now (plan .entry))) (row 15 0 g 0 0) ⌝ }
@@ -170,17 +135,8 @@ pub fn new_capacity(
 
 // 16 (58), candidate: build ≤ BuildLimit·V
 pub fn yearly_build(
-    data: &[u32],
-    plan: &[u32],
-    outputs: &[u32],
-    reserves: &[u32],
-    energy: &[u64; 1280],
-    at: &[usize; 43],
-    cat: &[usize; 43],
-    c: Counts,
-    scale: u64,
-    y: usize,
-    g: usize,
+    data: &[u32], plan: &[u32], outputs: &[u32], reserves: &[u32], energy: &[u64; 1280], at: &[usize; 43],
+    cat: &[usize; 43], c: Counts, scale: u64, y: usize, g: usize,
 ) -> Sides
     requires { ⌜ Ready (now «data») (now plan) (now outputs) (now reserves) (now energy) (now at) (now cat) c y × ((y < c .years) × (g < c .plants)) ⌝ }
     ensures { λ r. ⌜ r ≡ sidesOf (read (now («data» .entry))) scale (planEntry c (now (plan .entry))) (row 16 y g 0 0) ⌝ }
@@ -200,18 +156,8 @@ pub fn yearly_build(
 
 // 17 (62): Σ Dur·HeatRate·gen of that zone and fuel ≤ 1000·MaxFuel
 pub fn fuel_use(
-    data: &[u32],
-    plan: &[u32],
-    outputs: &[u32],
-    reserves: &[u32],
-    energy: &[u64; 1280],
-    at: &[usize; 43],
-    cat: &[usize; 43],
-    c: Counts,
-    scale: u64,
-    y: usize,
-    z: usize,
-    f: usize,
+    data: &[u32], plan: &[u32], outputs: &[u32], reserves: &[u32], energy: &[u64; 1280], at: &[usize; 43],
+    cat: &[usize; 43], c: Counts, scale: u64, y: usize, z: usize, f: usize,
 ) -> Sides
     requires { ⌜ Ready (now «data») (now plan) (now outputs) (now reserves) (now energy) (now at) (now cat) c y × ((y < c .years) × ((z < c .zones) × (f < c .fuels))) ⌝ }
     ensures { λ r. ⌜ r ≡ sidesOf (read (now («data» .entry))) scale (planEntry c (now (plan .entry))) (row 17 y z f 0) ⌝ }
@@ -228,15 +174,8 @@ pub fn fuel_use(
 
 // 18 (64): Σ R·V·Annuity·cap of candidates ≤ 10⁹·MaxCapital
 pub fn capital(
-    data: &[u32],
-    plan: &[u32],
-    outputs: &[u32],
-    reserves: &[u32],
-    energy: &[u64; 1280],
-    at: &[usize; 43],
-    cat: &[usize; 43],
-    c: Counts,
-    scale: u64,
+    data: &[u32], plan: &[u32], outputs: &[u32], reserves: &[u32], energy: &[u64; 1280], at: &[usize; 43],
+    cat: &[usize; 43], c: Counts, scale: u64,
 ) -> Sides
     requires { ⌜ Ready (now «data») (now plan) (now outputs) (now reserves) (now energy) (now at) (now cat) c 0 ⌝ }
     ensures { λ r. ⌜ r ≡ sidesOf (read (now («data» .entry))) scale (planEntry c (now (plan .entry))) (row 18 0 0 0 0) ⌝ }
@@ -253,17 +192,8 @@ pub fn capital(
 
 // 19 (66): Σ Dur·E·gen in z ≤ 1000·zone cap
 pub fn zone_emission(
-    data: &[u32],
-    plan: &[u32],
-    outputs: &[u32],
-    reserves: &[u32],
-    energy: &[u64; 1280],
-    at: &[usize; 43],
-    cat: &[usize; 43],
-    c: Counts,
-    scale: u64,
-    y: usize,
-    z: usize,
+    data: &[u32], plan: &[u32], outputs: &[u32], reserves: &[u32], energy: &[u64; 1280], at: &[usize; 43],
+    cat: &[usize; 43], c: Counts, scale: u64, y: usize, z: usize,
 ) -> Sides
     requires { ⌜ Ready (now «data») (now plan) (now outputs) (now reserves) (now energy) (now at) (now cat) c y × ((y < c .years) × (z < c .zones)) ⌝ }
     ensures { λ r. ⌜ r ≡ sidesOf (read (now («data» .entry))) scale (planEntry c (now (plan .entry))) (row 19 y z 0 0) ⌝ }
@@ -280,16 +210,8 @@ pub fn zone_emission(
 
 // 20 (68): Σ Dur·E·gen ≤ 1000·system cap
 pub fn system_emission(
-    data: &[u32],
-    plan: &[u32],
-    outputs: &[u32],
-    reserves: &[u32],
-    energy: &[u64; 1280],
-    at: &[usize; 43],
-    cat: &[usize; 43],
-    c: Counts,
-    scale: u64,
-    y: usize,
+    data: &[u32], plan: &[u32], outputs: &[u32], reserves: &[u32], energy: &[u64; 1280], at: &[usize; 43],
+    cat: &[usize; 43], c: Counts, scale: u64, y: usize,
 ) -> Sides
     requires { ⌜ Ready (now «data») (now plan) (now outputs) (now reserves) (now energy) (now at) (now cat) c y × (y < c .years) ⌝ }
     ensures { λ r. ⌜ r ≡ sidesOf (read (now («data» .entry))) scale (planEntry c (now (plan .entry))) (row 20 y 0 0 0) ⌝ }

@@ -42,18 +42,8 @@ ghost use Rattle.rows.specs.Ready.{Ready, sidesOf};
 
 // 1 (14): 1000·Σ gen in z − 1000·Σ trans[z,z2] + Σ (1000 − Loss[z2,z])·trans[z2,z] + unmet − surplus = Demand·EE
 pub fn balance(
-    data: &[u32],
-    plan: &[u32],
-    outputs: &[u32],
-    reserves: &[u32],
-    energy: &[u64; 1280],
-    at: &[usize; 43],
-    cat: &[usize; 43],
-    c: Counts,
-    scale: u64,
-    y: usize,
-    z: usize,
-    s: usize,
+    data: &[u32], plan: &[u32], outputs: &[u32], reserves: &[u32], energy: &[u64; 1280], at: &[usize; 43],
+    cat: &[usize; 43], c: Counts, scale: u64, y: usize, z: usize, s: usize,
 ) -> Sides
     requires { ⌜ Ready (now «data») (now plan) (now outputs) (now reserves) (now energy) (now at) (now cat) c y × ((y < c .years) × ((z < c .zones) × (s < slicesOf c))) ⌝ }
     ensures { λ r. ⌜ r ≡ sidesOf (read (now («data» .entry))) scale (planEntry c (now (plan .entry))) (row 1 y z 0 s) ⌝ }
@@ -77,19 +67,8 @@ pub fn balance(
 
 // 2 (15): trans ≤ TL
 pub fn transfer(
-    data: &[u32],
-    plan: &[u32],
-    outputs: &[u32],
-    reserves: &[u32],
-    energy: &[u64; 1280],
-    at: &[usize; 43],
-    cat: &[usize; 43],
-    c: Counts,
-    scale: u64,
-    y: usize,
-    z: usize,
-    w: usize,
-    s: usize,
+    data: &[u32], plan: &[u32], outputs: &[u32], reserves: &[u32], energy: &[u64; 1280], at: &[usize; 43],
+    cat: &[usize; 43], c: Counts, scale: u64, y: usize, z: usize, w: usize, s: usize,
 ) -> Sides
     requires { ⌜ Ready (now «data») (now plan) (now outputs) (now reserves) (now energy) (now at) (now cat) c y × ((y < c .years) × ((z < c .zones) × ((w < c .zones) × (s < slicesOf c)))) ⌝ }
     ensures { λ r. ⌜ r ≡ sidesOf (read (now («data» .entry))) scale (planEntry c (now (plan .entry))) (row 2 y z w s) ⌝ }
@@ -101,18 +80,8 @@ pub fn transfer(
 
 // 3 (19): 1000·Σ reserve in z + spinshort + 1000·Σ (TL[z2,z] − trans[z2,z]) ≥ 1000·SRes + Err·Σ gen of VRE in z
 pub fn spinning(
-    data: &[u32],
-    plan: &[u32],
-    outputs: &[u32],
-    reserves: &[u32],
-    energy: &[u64; 1280],
-    at: &[usize; 43],
-    cat: &[usize; 43],
-    c: Counts,
-    scale: u64,
-    y: usize,
-    z: usize,
-    s: usize,
+    data: &[u32], plan: &[u32], outputs: &[u32], reserves: &[u32], energy: &[u64; 1280], at: &[usize; 43],
+    cat: &[usize; 43], c: Counts, scale: u64, y: usize, z: usize, s: usize,
 ) -> Sides
     requires { ⌜ Ready (now «data») (now plan) (now outputs) (now reserves) (now energy) (now at) (now cat) c y × ((y < c .years) × ((z < c .zones) × (s < slicesOf c))) ⌝ }
     ensures { λ r. ⌜ r ≡ sidesOf (read (now («data» .entry))) scale (planEntry c (now (plan .entry))) (row 3 y z 0 s) ⌝ }
@@ -135,17 +104,8 @@ pub fn spinning(
 
 // 4 (21): Σ CapCredit·cap + firmshort + 1000·Σ TL[z2,z] over z2 and all seasons ≥ (1000 + PRM)·peak
 pub fn firm(
-    data: &[u32],
-    plan: &[u32],
-    outputs: &[u32],
-    reserves: &[u32],
-    energy: &[u64; 1280],
-    at: &[usize; 43],
-    cat: &[usize; 43],
-    c: Counts,
-    scale: u64,
-    y: usize,
-    z: usize,
+    data: &[u32], plan: &[u32], outputs: &[u32], reserves: &[u32], energy: &[u64; 1280], at: &[usize; 43],
+    cat: &[usize; 43], c: Counts, scale: u64, y: usize, z: usize,
 ) -> Sides
     requires { ⌜ Ready (now «data») (now plan) (now outputs) (now reserves) (now energy) (now at) (now cat) c y × ((y < c .years) × (z < c .zones)) ⌝ }
     ensures { λ r. ⌜ r ≡ sidesOf (read (now («data» .entry))) scale (planEntry c (now (plan .entry))) (row 4 y z 0 0) ⌝ }

@@ -23,8 +23,8 @@ use Rattle.model.specs.Counts.{sets, slicesOf}
 use Rattle.model.specs.Data.{tableBoxes, placeOf, dataLength, read}
 use Rattle.model.specs.Columns.{columnSets, columnBoxes}
 use Rattle.model.specs.declared.Family.{Family}
-use Rattle.model.specs.Families.{family, families, familyOf, rowBoxes}
-use Rattle.tables.specs.Layout.{shapeOf, Counted, Small, Inside, Entered, Column, startFrom, tableSets, planEntry}
+use Rattle.model.specs.Families.{family, families, familyOf, rowBoxes, shapeOf}
+use Rattle.tables.specs.Layout.{Counted, Small, Inside, Entered, Column, startFrom, tableSets, planEntry}
 
 -- a product of two numbers with known bounds fits; antt computes the test on the bounds
 pub small : (A B : ℕ) {a b : ℕ} → T (ltb (A * B) (2 ^ 64)) → a ≤ A → b ≤ B → Fits w64 (a * b)

@@ -22,10 +22,6 @@ abbrev pub outcome : Fault Refusal → Outcome
 outcome fine = Fine
 outcome (fault r) = Fails r
 
--- the counts and the twenty family sizes in one record
-unfoldable pub shapeOf : Counts → Shape
-shapeOf c = record { counts = c; sizes = map (λ (b : Box). volume b) (rowBoxes c) }
-
 -- counts that passed refusal 1
 pub record Counted (c : Counts) : Type 0 where
   pub someZones : 1 ≤ c .zones

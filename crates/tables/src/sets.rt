@@ -7,8 +7,8 @@ ghost use mathlib.Core.Path.{_≡_};
 ghost use Prim.Native.Nat.{_*_, _≤_, _<_};
 ghost use Rattle.sums.specs.Index.{boxOf, volume, inside};
 ghost use Rattle.model.specs.Counts.{sets, slicesOf};
-ghost use Rattle.model.specs.Families.{familyOf};
-ghost use Rattle.tables.specs.Layout.{Counted, Small, Inside, shapeOf};
+ghost use Rattle.model.specs.Families.{familyOf, shapeOf};
+ghost use Rattle.tables.specs.Layout.{Counted, Small, Inside};
 
 // Equation number, index set and equality of each family, in document 01's order.
 const FAMILIES: [Family; 20] = [

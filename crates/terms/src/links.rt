@@ -19,16 +19,7 @@ ghost use Rattle.model.specs.Columns.{trans};
 ghost use Rattle.tables.specs.Layout.{Counted, Laid, Planned, planEntry};
 
 // Σ (1000 − Loss[u,z])·trans[u,z] over the other zones u: what zone z receives.
-pub fn received(
-    data: &[u32],
-    plan: &[u32],
-    at: &[usize; 43],
-    cat: &[usize; 43],
-    c: Counts,
-    y: usize,
-    z: usize,
-    s: usize,
-) -> Sum
+pub fn received(data: &[u32], plan: &[u32], at: &[usize; 43], cat: &[usize; 43], c: Counts, y: usize, z: usize, s: usize) -> Sum
     requires { ⌜ Laid (now «data») (now at) c × (Planned (now plan) (now cat) c × ((y < c .years) × ((z < c .zones) × (s < slicesOf c)))) ⌝ }
     ensures { λ r. ⌜ r ≡ cap (sum (c .zones) (λ u. on (not (eqb u z)) ((1000 - loss (read (now («data» .entry))) y u z) * planEntry c (now (plan .entry)) (trans y u z s)))) ⌝ }
 {

@@ -43,15 +43,7 @@ pub fn zone_sum(data: &[u32], at: &[usize; 43], c: Counts, part: &[u32], z: u64,
 }
 
 // Err·Σ gen of VRE over the plants of zone z, in slice s.
-pub fn vre_sum(
-    data: &[u32],
-    at: &[usize; 43],
-    c: Counts,
-    part: &[u32],
-    z: u64,
-    err: u64,
-    s: usize,
-) -> Sum
+pub fn vre_sum(data: &[u32], at: &[usize; 43], c: Counts, part: &[u32], z: u64, err: u64, s: usize) -> Sum
     requires { ⌜ Laid (now «data») (now at) c × ((length (now part) ≡ c .plants * slicesOf c) × (s < slicesOf c)) ⌝ }
     ensures { λ r. ⌜ r ≡ cap (sum (c .plants) (λ g. on (eqb (zone (read (now («data» .entry))) g) z) (on (isVre (read (now («data» .entry))) g) (err * getD (now (part .entry)) (g * slicesOf c + s) 0)))) ⌝ }
 {
@@ -67,15 +59,7 @@ pub fn vre_sum(
 }
 
 // Σ CapCredit·cap over the plants of zone z.
-pub fn credit_sum(
-    data: &[u32],
-    plan: &[u32],
-    at: &[usize; 43],
-    cat: &[usize; 43],
-    c: Counts,
-    y: usize,
-    z: u64,
-) -> Sum
+pub fn credit_sum(data: &[u32], plan: &[u32], at: &[usize; 43], cat: &[usize; 43], c: Counts, y: usize, z: u64) -> Sum
     requires { ⌜ Laid (now «data») (now at) c × (Planned (now plan) (now cat) c × (y < c .years)) ⌝ }
     ensures { λ r. ⌜ r ≡ cap (sum (c .plants) (λ g. on (eqb (zone (read (now («data» .entry))) g) z) (capCredit (read (now («data» .entry))) g * planEntry c (now (plan .entry)) (capColumn y g)))) ⌝ }
 {
@@ -106,14 +90,7 @@ pub fn build_sum(plan: &[u32], cat: &[usize; 43], c: Counts, g: usize) -> Sum
 }
 
 // Σ R·V·Annuity·cap over the candidates, in year y.
-pub fn annuity_sum(
-    data: &[u32],
-    plan: &[u32],
-    at: &[usize; 43],
-    cat: &[usize; 43],
-    c: Counts,
-    y: usize,
-) -> Sum
+pub fn annuity_sum(data: &[u32], plan: &[u32], at: &[usize; 43], cat: &[usize; 43], c: Counts, y: usize) -> Sum
     requires { ⌜ Laid (now «data») (now at) c × (Planned (now plan) (now cat) c × (y < c .years)) ⌝ }
     ensures { λ r. ⌜ r ≡ cap (sum (c .plants) (λ g. on (candidate (read (now («data» .entry))) g) (rate (read (now («data» .entry))) y * weight (read (now («data» .entry))) y * annuity (read (now («data» .entry))) y g * planEntry c (now (plan .entry)) (capColumn y g)))) ⌝ }
 {
@@ -142,13 +119,7 @@ pub fn year_weight(data: &[u32], at: &[usize; 43], c: Counts, y: usize) -> u64
 }
 
 // Σ R·V·Annuity·cap over years and candidates.
-pub fn capital_sum(
-    data: &[u32],
-    plan: &[u32],
-    at: &[usize; 43],
-    cat: &[usize; 43],
-    c: Counts,
-) -> Sum
+pub fn capital_sum(data: &[u32], plan: &[u32], at: &[usize; 43], cat: &[usize; 43], c: Counts) -> Sum
     requires { ⌜ Laid (now «data») (now at) c × Planned (now plan) (now cat) c ⌝ }
     ensures { λ r. ⌜ r ≡ cap (sum (c .years) (λ y. sum (c .plants) (λ g. on (candidate (read (now («data» .entry))) g) (rate (read (now («data» .entry))) y * weight (read (now («data» .entry))) y * annuity (read (now («data» .entry))) y g * planEntry c (now (plan .entry)) (capColumn y g))))) ⌝ }
 {

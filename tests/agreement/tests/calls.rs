@@ -36,6 +36,7 @@ fn only_the_first_two_words_of_out_are_written() {
     let mut out = [UNTOUCHED; 5];
     assert_eq!(raw_check(&case.data, case.scale, &case.plan, &mut out), 0);
     assert_ne!(out[0], UNTOUCHED);
+    assert_eq!(out[1], 0);
     assert!(out[2..].iter().all(|word| *word == UNTOUCHED));
 }
 

@@ -3,86 +3,93 @@ use native.Mathlib.Omega.{arith}
 use Rattle.model.specs.Families.{familyOf}
 use Rattle.tables.proofs.Laws.{none-of}
 use Rattle.rows.specs.Ready.{sidesOf}
-use Rattle.rows.proofs.Laws.{inside-at, first-year}
+use Rattle.rows.proofs.Laws.{inside-at, by-slice, by-first, first-year}
 use Rattle.rows.proofs.walk.row_sides.Statement.{statement}
 use Rattle.rows.proofs.walk.row_sides.Tie as tie
 
 balance-requires : tie.Need-balance-requires
 unfolding familyOf
-balance-requires c κs = let p = c .before .before .before .before .before .pre in let m = inside-at _ (c .match .keys1) (p .1 .1) in (p .0, (m .year, (m .first, m .slice)))
+balance-requires c κs = by-slice _ (c .match .keys1) (c .before .before .before .before .before .pre)
 
 transfer-requires : tie.Need-transfer-requires
 unfolding familyOf
 transfer-requires c κs =
-    let p = c .before .before .before .before .before .pre in let m = inside-at _ (c .match .keys2) (p .1 .1) in (p .0, (m .year, (m .first, (m .second, m .slice))))
+    let p = c .before .before .before .before .before .pre in
+    let m = inside-at _ (c .match .keys2) (p .1 .1) in (p .0, (m .year, (m .first, (m .second, m .slice))))
 
 spinning-requires : tie.Need-spinning-requires
 unfolding familyOf
-spinning-requires c κs = let p = c .before .before .before .before .before .pre in let m = inside-at _ (c .match .keys3) (p .1 .1) in (p .0, (m .year, (m .first, m .slice)))
+spinning-requires c κs = by-slice _ (c .match .keys3) (c .before .before .before .before .before .pre)
 
 firm-requires : tie.Need-firm-requires
 unfolding familyOf
-firm-requires c κs = let p = c .before .before .before .before .before .pre in let m = inside-at _ (c .match .keys4) (p .1 .1) in (p .0, (m .year, m .first))
+firm-requires c κs = by-first _ (c .match .keys4) (c .before .before .before .before .before .pre)
 
 loading-requires : tie.Need-loading-requires
 unfolding familyOf
-loading-requires c κs = let p = c .before .before .before .before .before .pre in let m = inside-at _ (c .match .keys5) (p .1 .1) in (p .0, (m .year, (m .first, m .slice)))
+loading-requires c κs = by-slice _ (c .match .keys5) (c .before .before .before .before .before .pre)
 
 offer-requires : tie.Need-offer-requires
 unfolding familyOf
-offer-requires c κs = let p = c .before .before .before .before .before .pre in let m = inside-at _ (c .match .keys6) (p .1 .1) in (p .0, (m .year, (m .first, m .slice)))
+offer-requires c κs = by-slice _ (c .match .keys6) (c .before .before .before .before .before .pre)
 
 ramp-down-requires : tie.Need-ramp-down-requires
 unfolding familyOf
-ramp-down-requires c κs = let p = c .before .before .before .before .before .pre in let m = inside-at _ (c .match .keys7) (p .1 .1) in (p .0, (m .year, (m .first, m .slice)))
+ramp-down-requires c κs = by-slice _ (c .match .keys7) (c .before .before .before .before .before .pre)
 
 ramp-up-requires : tie.Need-ramp-up-requires
 unfolding familyOf
-ramp-up-requires c κs = let p = c .before .before .before .before .before .pre in let m = inside-at _ (c .match .keys8) (p .1 .1) in (p .0, (m .year, (m .first, m .slice)))
+ramp-up-requires c κs = by-slice _ (c .match .keys8) (c .before .before .before .before .before .pre)
 
 minimum-load-requires : tie.Need-minimum-load-requires
 unfolding familyOf
-minimum-load-requires c κs = let p = c .before .before .before .before .before .pre in let m = inside-at _ (c .match .keys9) (p .1 .1) in (p .0, (m .year, (m .first, m .slice)))
+minimum-load-requires c κs = by-slice _ (c .match .keys9) (c .before .before .before .before .before .pre)
 
 available-requires : tie.Need-available-requires
 unfolding familyOf
-available-requires c κs = let p = c .before .before .before .before .before .pre in let m = inside-at _ (c .match .keys10) (p .1 .1) in (p .0, (m .year, (m .first, m .slice)))
+available-requires c κs = by-slice _ (c .match .keys10) (c .before .before .before .before .before .pre)
 
 profiled-requires : tie.Need-profiled-requires
 unfolding familyOf
-profiled-requires c κs = let p = c .before .before .before .before .before .pre in let m = inside-at _ (c .match .keys11) (p .1 .1) in (p .0, (m .year, (m .first, m .slice)))
+profiled-requires c κs = by-slice _ (c .match .keys11) (c .before .before .before .before .before .pre)
 
 stock-requires : tie.Need-stock-requires
 unfolding familyOf
-stock-requires c κs = let p = c .before .before .before .before .before .pre in let m = inside-at _ (c .match .keys12) (p .1 .1) in (p .0, (m .year, m .first))
+stock-requires c κs = by-first _ (c .match .keys12) (c .before .before .before .before .before .pre)
 
 life-requires : tie.Need-life-requires
 unfolding familyOf
-life-requires c κs = let p = c .before .before .before .before .before .pre in let m = inside-at _ (c .match .keys13) (p .1 .1) in (p .0, (m .year, m .first))
+life-requires c κs = by-first _ (c .match .keys13) (c .before .before .before .before .before .pre)
 
 fixed-requires : tie.Need-fixed-requires
 unfolding familyOf
-fixed-requires c κs = let p = c .before .before .before .before .before .pre in let m = inside-at _ (c .match .keys14) (p .1 .1) in (p .0, (m .year, m .first))
+fixed-requires c κs = by-first _ (c .match .keys14) (c .before .before .before .before .before .pre)
 
 new-capacity-requires : tie.Need-new-capacity-requires
 unfolding familyOf
-new-capacity-requires c κs = let p = c .before .before .before .before .before .pre in let m = inside-at _ (c .match .keys15) (p .1 .1) in (first-year (m .year) (p .0), m .first)
+new-capacity-requires c κs =
+    let p = c .before .before .before .before .before .pre in
+    let m = inside-at _ (c .match .keys15) (p .1 .1) in (first-year (m .year) (p .0), m .first)
 
 yearly-build-requires : tie.Need-yearly-build-requires
 unfolding familyOf
-yearly-build-requires c κs = let p = c .before .before .before .before .before .pre in let m = inside-at _ (c .match .keys16) (p .1 .1) in (p .0, (m .year, m .first))
+yearly-build-requires c κs = by-first _ (c .match .keys16) (c .before .before .before .before .before .pre)
 
 fuel-use-requires : tie.Need-fuel-use-requires
 unfolding familyOf
-fuel-use-requires c κs = let p = c .before .before .before .before .before .pre in let m = inside-at _ (c .match .keys17) (p .1 .1) in (p .0, (m .year, (m .first, m .second)))
+fuel-use-requires c κs =
+    let p = c .before .before .before .before .before .pre in
+    let m = inside-at _ (c .match .keys17) (p .1 .1) in (p .0, (m .year, (m .first, m .second)))
 
 capital-requires : tie.Need-capital-requires
 unfolding familyOf
-capital-requires c κs = let p = c .before .before .before .before .before .pre in let m = inside-at _ (c .match .keys18) (p .1 .1) in first-year (m .year) (p .0)
+capital-requires c κs =
+    let p = c .before .before .before .before .before .pre in
+    let m = inside-at _ (c .match .keys18) (p .1 .1) in first-year (m .year) (p .0)
 
 zone-emission-requires : tie.Need-zone-emission-requires
 unfolding familyOf
-zone-emission-requires c κs = let p = c .before .before .before .before .before .pre in let m = inside-at _ (c .match .keys19) (p .1 .1) in (p .0, (m .year, m .first))
+zone-emission-requires c κs = by-first _ (c .match .keys19) (c .before .before .before .before .before .pre)
 
 system-emission-requires : tie.Need-system-emission-requires
 unfolding familyOf

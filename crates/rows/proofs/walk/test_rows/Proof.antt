@@ -7,12 +7,14 @@ use Rattle.model.specs.Tests.{rowFault}
 use Rattle.tables.specs.Layout.{planEntry}
 use Rattle.tables.proofs.Laws.{small}
 use Rattle.rows.proofs.Steps.{Going, Walked, ofSecond, ofFirst, ofYear, yearRows, none, more, turn, walked-none, walked-more, walked-all}
-use Rattle.rows.proofs.Steps.{row-number, row-below, stopped, box-is, inside-is, year-below, places-are, part-asked, ready}
+use Rattle.rows.proofs.Steps.{row-number, row-below, stopped, box-is, inside-is, year-below, ready}
+use Rattle.parts.proofs.Parts.{places-are, part-asked}
 use Rattle.rows.proofs.Steps.{outcome-fine, outcome-fails, answered}
 use borrow.Author.Needs.{needs}
 use Rattle.rows.proofs.walk.test_rows.Statement.{statement}
 use Rattle.rows.proofs.walk.test_rows.Tie as tie
 
+-- Each loop's invariant says what its own level has passed, from the row where it began; a measure is the turns that are left.
 abbrev Inv-loop4 : tie.InvT-loop4
 Inv-loop4 «data» plan energy at cat c scale places answer₀ row₀ k b y outputs reserves i j s₀ y-end i-end j-end s-end answer row s =
     Going (λ s. rowFault (read «data») scale (planEntry c plan) (index k y i j s)) (b .slices) 1 row₀ s row answer
@@ -53,7 +55,7 @@ abbrev μ-walk : tie.MeasureT-walk
 μ-walk «data» plan energy at cat c scale places answer₀ row₀ k₀ answer row k =
     20 - k
 
--- each need takes the ten
+-- every need takes the ten
 abbrev here :
     (tie.InvT-loop4
     → tie.MeasureT-loop4

@@ -35,8 +35,13 @@ sent-requires c κs = search needs
 planned-by-zone-slice-requires-2 : tie.Need-planned-by-zone-slice-requires-2
 planned-by-zone-slice-requires-2 c κs =
     let p = c .before .before .before .before .before .before .before .before .before .before .before .pre in
-    let m = zone-slice (p .1 .0) (p .1 .1 .0) (p .1 .1 .1) in
-    record { planned = p .0 .planned; counted = p .0 .laid .counted; table = omega arith; set = refl; inside = m }
+    record {
+      planned = p .0 .planned;
+      counted = p .0 .laid .counted;
+      table = omega arith;
+      set = refl;
+      inside = zone-slice (p .1 .0) (p .1 .1 .0) (p .1 .1 .1);
+    }
 
 add-product-requires-2 : tie.Need-add-product-requires-2
 add-product-requires-2 c κs = search needs

@@ -7,8 +7,8 @@ use native.Mathlib.Omega.{arith}
 use lib.ListN.{length, length-set, drop-of-length-le}
 use lib.Seq.{paste, paste-zero, paste-suc, take-all}
 use borrow.Author.Needs.{needs}
-use Rattle.epm.proofs.board.write.Statement.{statement}
-use Rattle.epm.proofs.board.write.Tie as tie
+use Rattle.parts.proofs.board.write.Statement.{statement}
+use Rattle.parts.proofs.board.write.Tie as tie
 
 abbrev Inv-loop : tie.InvT-loop
 Inv-loop part₀ outputs i₀ i-end part i = (i ≤ length outputs) × ((length part ≡ length part₀) × (part ≡ paste part₀ 0 outputs i))

@@ -2,8 +2,8 @@ use native.Mathlib.Nat.{add-sub-cancel-left}
 use lib.Seq.{drop-drop}
 use Rattle.model.specs.Calls.{replaced}
 use borrow.Author.Needs.{needs}
-use Rattle.epm.proofs.board.replace.Statement.{statement}
-use Rattle.epm.proofs.board.replace.Tie as tie
+use Rattle.parts.proofs.board.replace.Statement.{statement}
+use Rattle.parts.proofs.board.replace.Tie as tie
 
 add-end : tie.Need-add-end
 add-end c = search needs
