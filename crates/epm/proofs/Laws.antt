@@ -191,6 +191,13 @@ accepted-parts l N plan {c} e =
 
 -- the board's test, and the year's outputs
 
+pub year-late : (y years : ℕ) (b : Bool) → years ≤ y → false ≡ (ltb y years && b)
+year-late y years b h = rw (le-ltb y years h)
+
+pub year-in-time : (y years : ℕ) (b : Bool) → y < years → b ≡ (ltb y years && b)
+year-in-time y years b h = rw (lt-ltb y years h)
+
+
 pub board-tested : (D : Data) (y places start : ℕ) {f : Bool} {years needed : ℕ} → f ≡ (ltb y years && leb needed (places - start)) → years ≡ Y D → needed ≡ G D * S D
     → boardFault D y places start ≡ unless f Board
 unfolding boardFault
