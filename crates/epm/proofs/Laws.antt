@@ -6,15 +6,18 @@ use native.Mathlib.Nat.{zero-add, mul-pos}
 use native.Mathlib.Omega.{arith}
 use lib.Dec.{ltb, leb, eqb}
 use borrow.Author.Tests.{ltb-true, leb-true, eqb-true, le-leb, lt-leb, eq-eqb, ne-eqb, lt-ltb, le-ltb}
+use lib.IntN.{ℤ}
 use lib.ListN.{length, getD, take, drop}
 use mathlib.Core.List.{List}
 use Rattle.capped.specs.declared.Amount.the-variants.{Exactly, Above}
 use Rattle.capped.specs.Cap.{limit, cap, told}
 use Rattle.capped.proofs.Laws.{told-exactly, told-above}
 use Rattle.sums.specs.Span.{Fault, fine, fault, orElse}
-use Rattle.sums.specs.Index.{Index, count}
+use Rattle.sums.specs.Index.{Index, start, count}
 use Rattle.model.specs.declared.Answer.{Answer}
 use Rattle.model.specs.declared.Answer.the-variants.{Accepted, Refused}
+use Rattle.model.specs.declared.Certificate.{Certificate}
+use Rattle.model.specs.declared.Certificate.the-variants.{Withheld}
 use Rattle.model.specs.declared.Outcome.{Outcome}
 use Rattle.model.specs.declared.Outcome.the-variants.{Fine, Fails}
 use Rattle.model.specs.declared.Refusal.{Refusal}
@@ -22,15 +25,15 @@ use Rattle.model.specs.declared.Refusal.the-variants.{Scale, PlanLength, CostOf
 use Rattle.model.specs.Data.{Data, read}
 use Rattle.model.specs.Columns.{columnBoxes, entries}
 use Rattle.model.specs.Prices.{cost}
-use Rattle.model.specs.Tests.{unless, dataFault, scaleFault, planLengthFault, rowsFault, costFault, planFault, boardFault}
-use Rattle.model.specs.Calls.{answer, checkFault, costOf, check, postFault, post, posted, boardAfter, replaced, yearOutputs}
+use Rattle.model.specs.Tests.{unless, dataFault, scaleFault, planLengthFault, rowsFault, costFault, planFault, boardFault, multiplierCountFault, multipliersFault, columnsFault, gapFault, dualFault, gap}
+use Rattle.model.specs.Calls.{answer, certificate, checkFault, costOf, check, certifyFault, gapOf, certify, postFault, post, posted, boardAfter, replaced, yearOutputs}
 use Rattle.tables.specs.Layout.{outcome}
 use Rattle.sums.proofs.Spans.{orElse-fine}
 use Rattle.model.specs.declared.Counts.{Counts}
 use Rattle.model.specs.declared.Shape.{Shape}
 use Rattle.model.specs.Data.{countsOf}
 use Rattle.model.specs.Columns.{columnSets, columnNumber, gen}
-use Rattle.model.specs.Families.{shapeOf}
+use Rattle.model.specs.Families.{shapeOf, rowBoxes}
 use Rattle.model.specs.declared.Refusal.the-variants.{Board}
 use Rattle.model.specs.Counts.{slicesOf}
 use Rattle.model.specs.Data.{Y, G, S}
@@ -38,7 +41,8 @@ use Rattle.model.proofs.Sound.{passed, both}
 use Rattle.tables.specs.Layout.{Counted, Planned, startFrom}
 use Rattle.tables.proofs.Laws.{start-at}
 use Rattle.tables.proofs.Passed.{outcome-fine, sound-counts}
-use Rattle.epm.specs.Answers.{planTest, rowsAndCost}
+use Rattle.duals.specs.Multipliers.{Shaped, Dualled}
+use Rattle.epm.specs.Answers.{planTest, rowsAndCost, after, boardAfterCheck}
 
 -- the plan's tests, by what the code found
 
@@ -64,19 +68,28 @@ module _ (N places columns : ℕ) where
   plan-fits z h e = rw (scale-fine z h, eq-eqb places columns e)
 
 -- a test that refused, and one that did not, in front of the rest
-pub refused-first : (f g : Fault Refusal) (c : ℕ) {o : Outcome} {r : Refusal} → o ≡ outcome f → o ≡ Fails r → Refused r ≡ answer (orElse f g) c
+pub refused-by : (f g : Fault Refusal) {o : Outcome} {r : Refusal} → o ≡ outcome f → o ≡ Fails r → orElse f g ≡ fault r
 unfolding orElse
-refused-first fine g c e q = let z : _≡_ {A = ℕ} 0 1 = cc in absurd (omega arith)
-refused-first (fault s) g c e q = cc
+refused-by fine g e q = let z : _≡_ {A = ℕ} 0 1 = cc in absurd (omega arith)
+refused-by (fault s) g e q = cc
+
+pub passed-by : (f g : Fault Refusal) → f ≡ fine → orElse f g ≡ g
+unfolding orElse
+passed-by f g e = rw e
+
+pub refused-first : (f g : Fault Refusal) (c : ℕ) {o : Outcome} {r : Refusal} → o ≡ outcome f → o ≡ Fails r → Refused r ≡ answer (orElse f g) c
+refused-first f g c e q = rw (refused-by f g e q)
 
 pub passed-first : (f g : Fault Refusal) (c : ℕ) {a : Answer} → f ≡ fine → a ≡ answer g c → a ≡ answer (orElse f g) c
-unfolding orElse
-passed-first f g c e q = rw e q
+passed-first f g c e q = q ∙ rw (passed-by f g e)
 
 pub in-two : (f g h : Fault Refusal) → orElse (orElse f g) h ≡ orElse f (orElse g h)
 unfolding orElse
 in-two fine g h = refl
 in-two (fault r) g h = refl
+
+pub passes : {f : Fault Refusal} {o : Outcome} → o ≡ outcome f → o ≡ Fine → f ≡ fine
+passes {f} e q = outcome-fine f (sym e ∙ q)
 
 -- the rows passed: what the cost comes to decides
 
@@ -120,38 +133,80 @@ module _ (l : List ℕ) (N : ℕ) (plan : List ℕ) where
       (rw (← in-two (scaleFault N) (planLengthFault (read l) plan) (orElse (rowsFault (read l) N (entries (read l) plan)) (costFault (read l) (entries (read l) plan))))
         (passed-first (orElse (scaleFault N) (planLengthFault (read l) plan)) _ _ (outcome-fine _ (rw (← e) (sym t) ∙ q)) h))
 
--- post after check
+-- certify after check
 
-module _ (l : List ℕ) (N : ℕ) (plan : List ℕ) (y : ℕ) (board : List ℕ) (start : ℕ) where
-  -- what check refuses post refuses, and the board stays
-  pub check-refused : {r : Refusal} → check l N plan ≡ Refused r → (Refused r ≡ post l N plan y board start) × (board ≡ posted l N plan y board start)
-  unfolding check post posted postFault orElse
-  check-refused {r} e = go (checkFault l N plan) e
+module _ (l : List ℕ) (N : ℕ) (plan : List ℕ) (ms : List ℤ) where
+  pub certify-refused : {r : Refusal} → check l N plan ≡ Refused r → Withheld r ≡ certify l N plan ms
+  unfolding check certify certifyFault orElse
+  certify-refused {r} e = go (checkFault l N plan) e
     where
-      go : (f : Fault Refusal) → answer f (costOf l plan) ≡ Refused r
-          → (Refused r ≡ answer (orElse f (boardFault (read l) y (length board) start)) (costOf l plan))
-          × (board ≡ boardAfter (orElse f (boardFault (read l) y (length board) start)) board (replaced board start (yearOutputs (read l) plan y)))
+      go : (f : Fault Refusal) → answer f (costOf l plan) ≡ Refused r → Withheld r ≡ certificate (orElse f (dualFault (read l) ms N)) (costOf l plan) (gapOf l N plan ms)
       go fine p = let z : _≡_ {A = ℕ} 0 1 = cc in absurd (omega arith)
-      go (fault s) p = (sym p, refl)
+      go (fault s) p = cc
 
-  -- what check accepts goes by the board's test
-  pub check-accepted : {c : ℕ} → check l N plan ≡ Accepted c
-      → (post l N plan y board start ≡ answer (boardFault (read l) y (length board) start) c)
-      × (posted l N plan y board start ≡ boardAfter (boardFault (read l) y (length board) start) board (replaced board start (yearOutputs (read l) plan y)))
-  unfolding check post posted postFault orElse
-  check-accepted {c} e = go (checkFault l N plan) e
+  pub certify-accepted : {c : ℕ} {v : Certificate} → check l N plan ≡ Accepted c → v ≡ certificate (dualFault (read l) ms N) c (gap (read l) ms N c) → v ≡ certify l N plan ms
+  unfolding check certify certifyFault gapOf orElse
+  certify-accepted {c} {v} e h = go (checkFault l N plan) e
     where
       go : (f : Fault Refusal) → answer f (costOf l plan) ≡ Accepted c
-          → (answer (orElse f (boardFault (read l) y (length board) start)) (costOf l plan) ≡ answer (boardFault (read l) y (length board) start) c)
-          × (boardAfter (orElse f (boardFault (read l) y (length board) start)) board (replaced board start (yearOutputs (read l) plan y))
-            ≡ boardAfter (boardFault (read l) y (length board) start) board (replaced board start (yearOutputs (read l) plan y)))
-      go fine p = let h : costOf l plan ≡ c = cc in (ap (answer (boardFault (read l) y (length board) start)) h, refl)
+          → v ≡ certificate (orElse f (dualFault (read l) ms N)) (costOf l plan) (gap (read l) ms N (costOf l plan))
+      go fine p = let q : costOf l plan ≡ c = cc in h ∙ rw q
       go (fault s) p = let z : _≡_ {A = ℕ} 0 1 = cc in absurd (omega arith)
 
--- what a passed test says, and what acceptance says of data and plan
+-- the stages of certify beside a cost
+module _ (D : Data) (ms : List ℤ) (N cost : ℕ) where
+  abbrev multiplierTests : Fault Refusal
+  multiplierTests = orElse (multiplierCountFault D ms) (multipliersFault D ms)
 
-pub passes : {f : Fault Refusal} {o : Outcome} → o ≡ outcome f → o ≡ Fine → f ≡ fine
-passes {f} e q = outcome-fine f (sym e ∙ q)
+  abbrev rest : Fault Refusal
+  rest = orElse (columnsFault D ms) (gapFault D ms N)
+
+  stages : dualFault D ms N ≡ orElse multiplierTests rest
+  unfolding dualFault
+  stages = sym (in-two (multiplierCountFault D ms) (multipliersFault D ms) rest)
+
+  pub multipliers-refused : {o : Outcome} {r : Refusal} → o ≡ outcome multiplierTests → o ≡ Fails r → Withheld r ≡ certificate (dualFault D ms N) cost (gap D ms N cost)
+  multipliers-refused e q = rw (stages, refused-by multiplierTests rest e q)
+
+  module _ {o : Outcome} (e : o ≡ outcome multiplierTests) (q : o ≡ Fine) where
+    pub multipliers-whole : length ms ≡ count (rowBoxes (D .counts))
+    unfolding multiplierCountFault
+    multipliers-whole = eqb-true _ _ (passed _ _ (orElse-fine _ _ (passes e q) .0))
+
+    pub columns-refused : {p : Outcome} {r : Refusal} → p ≡ outcome (columnsFault D ms) → p ≡ Fails r → Withheld r ≡ certificate (dualFault D ms N) cost (gap D ms N cost)
+    columns-refused h w = rw (stages, passed-by multiplierTests rest (passes e q), refused-by (columnsFault D ms) (gapFault D ms N) h w)
+
+    pub columns-passed : {p : Outcome} {v : Certificate} → p ≡ outcome (columnsFault D ms) → p ≡ Fine
+        → v ≡ certificate (gapFault D ms N) cost (gap D ms N cost) → v ≡ certificate (dualFault D ms N) cost (gap D ms N cost)
+    columns-passed h w g = g ∙ rw (stages, passed-by multiplierTests rest (passes e q), passed-by (columnsFault D ms) (gapFault D ms N) (passes h w))
+
+-- post after check: what check refuses post refuses, and the board stays; what it accepts goes by the board's test
+
+pub post-after : (l : List ℕ) (N : ℕ) (plan : List ℕ) (y : ℕ) (board : List ℕ) (start : ℕ) {a : Answer} → a ≡ check l N plan
+    → (after a (boardFault (read l) y (length board) start) ≡ post l N plan y board start)
+    × (boardAfterCheck a (boardFault (read l) y (length board) start) board (replaced board start (yearOutputs (read l) plan y)) ≡ posted l N plan y board start)
+unfolding check post posted postFault orElse after boardAfterCheck
+post-after l N plan y board start e = rw e (go (checkFault l N plan))
+  where
+    go : (f : Fault Refusal)
+        → (after (answer f (costOf l plan)) (boardFault (read l) y (length board) start) ≡ answer (orElse f (boardFault (read l) y (length board) start)) (costOf l plan))
+        × (boardAfterCheck (answer f (costOf l plan)) (boardFault (read l) y (length board) start) board (replaced board start (yearOutputs (read l) plan y))
+          ≡ boardAfter (orElse f (boardFault (read l) y (length board) start)) board (replaced board start (yearOutputs (read l) plan y)))
+    go fine = (refl, refl)
+    go (fault r) = (refl, refl)
+
+-- the two ways on from check's answer
+
+module _ (a : Answer) (f : Fault Refusal) (old new : List ℕ) where
+  pub kept-after : {r : Refusal} → a ≡ Refused r → (Refused r ≡ after a f) × (old ≡ boardAfterCheck a f old new)
+  unfolding after boardAfterCheck
+  kept-after e = rw e (refl, refl)
+
+  pub put-by-test : {b : Answer} {last : List ℕ} {c : ℕ} → a ≡ Accepted c → b ≡ answer f c → last ≡ boardAfter f old new → (b ≡ after a f) × (last ≡ boardAfterCheck a f old new)
+  unfolding after boardAfterCheck
+  put-by-test e p q = rw e (p, q)
+
+-- what a passed test says, and what acceptance says of data and plan
 
 pub shape-counts : {r : Shape} {c : Counts} → r ≡ shapeOf c → r .counts ≡ c
 unfolding shapeOf
@@ -164,6 +219,14 @@ counts-sound l s e = rw e (sound-counts l s)
 pub counts-read : (l : List ℕ) {c : Counts} → c ≡ countsOf l → read l .counts ≡ c
 unfolding read
 counts-read l e = sym e
+
+pub shaped : (l : List ℕ) → dataFault l ≡ fine → {c : Counts} {shape : Shape} → c ≡ countsOf l → shape ≡ shapeOf c → Shaped shape
+shaped l s e q = record { counted = counts-sound l s (shape-counts q ∙ e); sized = q ∙ ap shapeOf (sym (shape-counts q)) }
+
+-- a multiplier for every row, at the counts that the code holds
+pub dualled : (D : Data) {ms : List ℤ} {rat : List ℕ} {c : Counts} → D .counts ≡ c → length ms ≡ count (rowBoxes (D .counts))
+    → ((k : ℕ) → k ≤ 20 → getD rat k 0 ≡ start (rowBoxes c) k) → Dualled ms rat c
+dualled D e w s = record { whole = w ∙ ap (λ (d : Counts). count (rowBoxes d)) e; starts = s }
 
 pub columns-end : (l : List ℕ) {c : Counts} {n : ℕ} → c ≡ countsOf l → n ≡ startFrom c columnSets 0 10 → n ≡ count (columnBoxes (read l .counts))
 unfolding columnBoxes
@@ -188,6 +251,18 @@ accepted-parts l N plan {c} e =
     all-fine : (f : Fault Refusal) → answer f (costOf l plan) ≡ Accepted c → f ≡ fine
     all-fine fine p = refl
     all-fine (fault r) p = let z : _≡_ {A = ℕ} 0 1 = cc in absurd (omega arith)
+
+pub accepted-cost : (l : List ℕ) (N : ℕ) (plan : List ℕ) {c : ℕ} → check l N plan ≡ Accepted c → c ≤ limit
+unfolding check checkFault planFault costFault costOf
+accepted-cost l N plan {c} e = go (checkFault l N plan) refl e
+  where
+    go : (f : Fault Refusal) → f ≡ checkFault l N plan → answer f (costOf l plan) ≡ Accepted c → c ≤ limit
+    go fine h p =
+        let q : costOf l plan ≡ c = cc in
+        let two = orElse-fine (dataFault l) (planFault (read l) N plan) (sym h) in
+        let rest = orElse-fine _ _ (orElse-fine _ _ (orElse-fine _ _ (two .1) .1) .1) in
+        omega (arith, q, leb-true (cost (read l) (entries (read l) plan)) limit (passed _ _ (rest .1)))
+    go (fault r) h p = let z : _≡_ {A = ℕ} 0 1 = cc in absurd (omega arith)
 
 -- the board's test, and the year's outputs
 

@@ -1,18 +1,23 @@
-// The published calls: check and post. Each takes any lists, and answers on every input.
+// The published calls: check, certify and post. Each takes any lists, and answers on every input.
 pub mod tests;
 
 use capped::Amount;
 use crate::tests::board_fits;
 use crate::tests::test_plan;
+use duals::row_starts;
+use duals::test_multipliers;
 use energy::totals::fill_energies;
+use gap::gap_of;
 use model::Answer;
+use model::Certificate;
 use model::Counts;
 use model::Outcome;
 use model::Refusal;
 use parts::board::replace;
 use parts::years::year_part;
 use prices::cost_of;
-use rows::walk::test_rows;
+use pricing::test_columns;
+use row_tests::test_rows;
 use tables::names::GEN;
 use tables::sets::shape_of;
 use tables::sets::slices_of;
@@ -21,15 +26,19 @@ use tables::starts::table_starts;
 use tables::tests::counts_of;
 use tables::tests::test_data;
 ghost use mathlib.Core.Path.{_≡_};
+ghost use Prim.Native.Nat.{ℕ, _≤_};
 ghost use lib.ListN.{length};
+ghost use Rattle.capped.specs.Cap.{limit};
 ghost use Rattle.sums.specs.Span.{fine};
 ghost use Rattle.sums.specs.Index.{count};
+ghost use Rattle.model.specs.declared.Answer.the-variants.{Accepted};
 ghost use Rattle.model.specs.Data.{read};
 ghost use Rattle.model.specs.Columns.{columnBoxes};
-ghost use Rattle.model.specs.Tests.{dataFault, boardFault};
-ghost use Rattle.model.specs.Calls.{check as checkSpec, post as postSpec, posted, answer, boardAfter, replaced, yearOutputs};
+ghost use Rattle.model.specs.Tests.{dataFault, dualFault, gap, boardFault};
+ghost use Rattle.model.specs.Calls.{check as checkSpec, certify as certifySpec, post as postSpec, posted, answer, certificate, boardAfter, replaced, yearOutputs};
+ghost use Rattle.model.specs.Rival.{Binds};
 ghost use Rattle.tables.specs.Layout.{Laid, Planned, planEntry};
-ghost use Rattle.epm.specs.Answers.{rowsAndCost};
+ghost use Rattle.epm.specs.Answers.{rowsAndCost, after, boardAfterCheck};
 
 // Refusals 6, 7 and 8, and the cost.
 fn price(data: &[u32], scale: u32, plan: &[u32], at: &[usize; 43], cat: &[usize; 43], c: Counts) -> Answer
@@ -67,6 +76,38 @@ pub fn check(data: &[u32], scale: u32, plan: &[u32]) -> Answer
     price(data, scale, plan, &at, &cat, c)
 }
 
+// Refusals 9 to 13 beside a cost that check answered, or the certificate.
+fn issue(data: &[u32], scale: u32, multipliers: &[i64], cost: u64) -> Certificate
+    requires { ⌜ (dataFault (now «data») ≡ fine) × (cost ≤ limit) ⌝ }
+    ensures { λ r. ⌜ r ≡ certificate (dualFault (read (now («data» .entry))) (now (multipliers .entry)) scale) cost (gap (read (now («data» .entry))) (now (multipliers .entry)) scale cost) ⌝ }
+{
+    let shape = shape_of(counts_of(data));
+    match test_multipliers(multipliers, shape) {
+        Outcome::Fails(r) => return Certificate::Withheld(r),
+        Outcome::Fine => {}
+    }
+    let c = shape.counts;
+    let at = table_starts(c);
+    let rat = row_starts(shape);
+    match test_columns(data, multipliers, &at, &rat, c) {
+        Outcome::Fails(r) => return Certificate::Withheld(r),
+        Outcome::Fine => {}
+    }
+    gap_of(data, multipliers, &at, &rat, c, scale as u64, cost)
+}
+
+// certify: data, N, plan, one multiplier for each row; cost and gap, or the first refusal in document 01's order.
+// Demand 3 is the second part of its contract: an issued certificate binds every rival plan at every scale (`Binds`, model/specs/Rival.antt).
+pub fn certify(data: &[u32], scale: u32, plan: &[u32], multipliers: &[i64]) -> Certificate
+    ensures { λ r. ⌜ (r ≡ certifySpec (now («data» .entry)) scale (now (plan .entry)) (now (multipliers .entry))) × Binds (now («data» .entry)) scale r ⌝ }
+{
+    let answer = check(data, scale, plan);
+    match answer {
+        Answer::Refused(r) => Certificate::Withheld(r),
+        Answer::Accepted(cost) => issue(data, scale, multipliers, cost),
+    }
+}
+
 // Refusal 14, or the year's outputs on the board.
 fn put_year(data: &[u32], plan: &[u32], year: usize, board: &mut [u32], start: usize, cost: u64) -> Answer
     requires { ⌜ (dataFault (now «data») ≡ fine) × (length (now plan) ≡ count (columnBoxes (read (now «data») .counts))) ⌝ }
@@ -84,14 +125,24 @@ fn put_year(data: &[u32], plan: &[u32], year: usize, board: &mut [u32], start: u
     Answer::Accepted(cost)
 }
 
+// Once check has answered: what it refused leaves the board alone, what it accepted goes by refusal 14.
+fn put_after(answer: Answer, data: &[u32], plan: &[u32], year: usize, board: &mut [u32], start: usize) -> Answer
+    requires { ⌜ ((cost : ℕ) → answer ≡ Accepted cost → (dataFault (now «data») ≡ fine) × (length (now plan) ≡ count (columnBoxes (read (now «data») .counts)))) ⌝ }
+    ensures { λ r. ⌜ (r ≡ after answer (boardFault (read (now («data» .entry))) year (length (now (board .entry))) start))
+        × (now (board .exit) ≡ boardAfterCheck answer (boardFault (read (now («data» .entry))) year (length (now (board .entry))) start) (now (board .entry))
+            (replaced (now (board .entry)) start (yearOutputs (read (now («data» .entry))) (now (plan .entry)) year))) ⌝ }
+{
+    match answer {
+        Answer::Refused(r) => Answer::Refused(r),
+        Answer::Accepted(cost) => put_year(data, plan, year, board, start, cost),
+    }
+}
+
 // post: after the tests of check the year's part of the gen table replaces the board's places from `start` on; on a refusal the board keeps all it held.
 pub fn post(data: &[u32], scale: u32, plan: &[u32], year: usize, board: &mut [u32], start: usize) -> Answer
     ensures { λ r. ⌜ (r ≡ postSpec (now («data» .entry)) scale (now (plan .entry)) year (now (board .entry)) start)
         × (now (board .exit) ≡ posted (now («data» .entry)) scale (now (plan .entry)) year (now (board .entry)) start) ⌝ }
 {
     let answer = check(data, scale, plan);
-    match answer {
-        Answer::Refused(r) => Answer::Refused(r),
-        Answer::Accepted(cost) => put_year(data, plan, year, board, start, cost),
-    }
+    put_after(answer, data, plan, year, board, start)
 }

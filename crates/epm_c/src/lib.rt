@@ -1,11 +1,13 @@
 // The calls for C and Rust. Each slice passes as a pointer and a length; `out` takes an answer's two figures.
 use codes::answer_code;
+use codes::certificate_code;
 use model::Answer;
+use model::Certificate;
 use model::Code;
 ghost use mathlib.Core.Path.{_≡_};
 ghost use Prim.Native.Nat.{_<_, _≤_};
 ghost use lib.ListN.{length};
-ghost use Rattle.model.specs.Calls.{check, post, posted, answerCode};
+ghost use Rattle.model.specs.Calls.{check, certify, post, posted, answerCode, certificateCode};
 ghost use Rattle.epm_c.specs.Exports.{status, written, figures, boardOf};
 
 // The two figures of a code.
@@ -27,6 +29,20 @@ pub extern "C" fn epm_check(data: &[u32], scale: u32, plan: &[u32], out: &mut [u
         return 255;
     }
     let code = answer_code(epm::check(data, scale, plan));
+    put(out, code);
+    code.number
+}
+
+// 0 with the cost in out[0] and the gap in out[1]; else as epm_check. What an issued certificate says of every rival plan is in the contract of `epm::certify`.
+#[no_mangle]
+pub extern "C" fn epm_certify(data: &[u32], scale: u32, plan: &[u32], multipliers: &[i64], out: &mut [u64]) -> u32
+    ensures { λ r. ⌜ (r ≡ status (length (now (out .entry))) (certificateCode (certify (now («data» .entry)) scale (now (plan .entry)) (now (multipliers .entry)))))
+        × (now (out .exit) ≡ written (now (out .entry)) (certificateCode (certify (now («data» .entry)) scale (now (plan .entry)) (now (multipliers .entry))))) ⌝ }
+{
+    if out.len() < 2 {
+        return 255;
+    }
+    let code = certificate_code(epm::certify(data, scale, plan, multipliers));
     put(out, code);
     code.number
 }

@@ -3,7 +3,7 @@ use mathlib.Core.Path.{_≡_, refl, sym, _∙_, ap}
 use mathlib.Core.Bool.{not}
 use mathlib.Core.List.{List}
 use Prim.Native.Nat.{ℕ, _+_, _*_, _-_, _≤_, _<_}
-use native.Mathlib.Nat.{zero-add, add-zero, add-assoc, zero-mul, mul-comm, mul-assoc, mul-left-comm, mul-pos}
+use native.Mathlib.Nat.{zero-add, add-zero, add-assoc, zero-mul, mul-one, mul-comm, mul-assoc, mul-left-comm, mul-pos}
 use native.Mathlib.Omega.{arith}
 use lib.Dec.{eqb}
 use lib.ListN.{length, getD, take, drop, length-take, length-drop}
@@ -14,6 +14,7 @@ use Rattle.capped.specs.Cap.{cap, plus, both, times, word}
 use Rattle.capped.proofs.Laws.{plus-cap, both-cap, times-cap, plus-word}
 use Rattle.sums.specs.Sum.{sum, on}
 use Rattle.sums.specs.Index.{Index, index, box, boxOf, inside}
+use Rattle.sums.proofs.ByKind.{_▹_}
 use Rattle.sums.proofs.Sums.{sum-cong, sum-add, sum-scale, sum-single, sum-const-zero}
 use Rattle.model.specs.declared.Counts.{Counts}
 use Rattle.model.specs.Counts.{sets, slicesOf}
@@ -22,7 +23,7 @@ use Rattle.model.specs.Columns.{columnSets, columnBoxes}
 use Rattle.model.specs.Prices.{price, cost, yearWeight}
 use Rattle.tables.specs.Layout.{Inside, Column, planEntry}
 use Rattle.tables.proofs.Laws.{columnPlace, column-below, column-is}
-use Rattle.prices.specs.Costs.{Hourly, Hours, gen, reserve, unmet, surplus, spinshort, setOf, firstsOf, hourPrice, slicesCost, hoursCost, yearCost}
+use Rattle.prices.specs.Costs.{Hourly, Hours, gen, reserve, unmet, surplus, spinshort, setOf, firstsOf, hourPrice, unitPrice, hoursOf, slicesCost, hoursCost, yearCost}
 
 -- Capped sums
 
@@ -112,6 +113,62 @@ module _ (D : Data) (c : Counts) (x : Index → ℕ) {t : ℕ} (h : Hourly t) (y
       → m ≡ cap hours → k ≡ word m → r ≡ times q k → r ≡ cap (slicesCost D c x t y i)
   hours-priced ew ep eq em ek er =
       er ∙ rw (eq, ep, ew, ek, em, times-cap (hourPrice D t y i) (yearWeight D y)) (times-word perHour hours ∙ ap cap hours-cost)
+
+-- A column's price in two factors
+
+-- what the last arm of a `match` on the table knows
+pub rest-hourly : (k : ℕ) → k < 10 → (k ≡ 0 → ⊥) → (k ≡ 1 → ⊥) → (k ≡ 2 → ⊥) → (k ≡ 5 → ⊥) → (k ≡ 9 → ⊥) → Hourly k
+rest-hourly =
+    (λ i l. absurd (omega arith))
+    ▹ (λ a b d e f. absurd (a refl))
+    ▹ (λ a b d e f. absurd (b refl))
+    ▹ (λ a b d e f. absurd (d refl))
+    ▹ (λ a b d e f. gen)
+    ▹ (λ a b d e f. reserve)
+    ▹ (λ a b d e f. absurd (e refl))
+    ▹ (λ a b d e f. unmet)
+    ▹ (λ a b d e f. surplus)
+    ▹ (λ a b d e f. spinshort)
+    ▹ (λ a b d e f. absurd (f refl))
+
+pub hourly-slices : {k : ℕ} → Hourly k → (c : Counts) {s : ℕ} → s < boxOf (sets c) (setOf k) .slices → s < slicesOf c
+hourly-slices h c l = rw (hourly-box h c) at l
+
+pub hourly-unit : (D : Data) {k : ℕ} → Hourly k → (y i : ℕ) → unitPrice D k y i ≡ hourPrice D k y i * yearWeight D y
+unfolding unitPrice
+hourly-unit D gen y i = refl
+hourly-unit D reserve y i = refl
+hourly-unit D unmet y i = refl
+hourly-unit D surplus y i = refl
+hourly-unit D spinshort y i = refl
+
+pub hourly-hours : (D : Data) {k : ℕ} → Hourly k → (s : ℕ) → hoursOf D k s ≡ duration D s
+unfolding hoursOf
+hourly-hours D gen s = refl
+hourly-hours D reserve s = refl
+hourly-hours D unmet s = refl
+hourly-hours D surplus s = refl
+hourly-hours D spinshort s = refl
+
+-- a column's price is that of its unit times its hours
+module _ (D : Data) (y i j s : ℕ) where
+  in-order : (p : ℕ) → p * yearWeight D y * duration D s ≡ yearWeight D y * duration D s * p
+  in-order p = simp (mul-comm, mul-left-comm)
+
+  pub price-factors : (k : ℕ) → k < 10 → unitPrice D k y i * hoursOf D k s ≡ price D (index k y i j s)
+  unfolding unitPrice hoursOf hourPrice price
+  price-factors =
+      (λ i l. absurd (omega arith))
+      ▹ mul-one _
+      ▹ refl
+      ▹ refl
+      ▹ in-order _
+      ▹ in-order _
+      ▹ refl
+      ▹ in-order _
+      ▹ in-order _
+      ▹ in-order _
+      ▹ mul-one _
 
 -- The part of the plan that holds the slices of plant or zone i in year y
 module _ {plan at : List ℕ} {c : Counts} {t y i : ℕ} (m : Hours plan at c t y i) where

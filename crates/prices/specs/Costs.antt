@@ -2,13 +2,13 @@
 use mathlib.Core.List.{List, [], _∷_}
 use Prim.Native.Nat.{ℕ, _+_, _*_, _<_}
 use lib.ListN.{getD}
-use Rattle.sums.specs.Sum.{sum}
+use Rattle.sums.specs.Sum.{sum, on}
 use Rattle.sums.specs.Index.{Index, index, boxOf}
 use Rattle.model.specs.declared.Counts.{Counts}
 use Rattle.model.specs.Counts.{sets, slicesOf}
-use Rattle.model.specs.Data.{Data, genCost, tax, emission, resCost, voll, surplusPenalty, sresVoLL}
+use Rattle.model.specs.Data.{Data, duration, annuity, fixedOM, candidate, genCost, tax, emission, resCost, voll, surplusPenalty, sresVoLL, resVoLL}
 use Rattle.model.specs.Columns.{columnSets, cap, firmshort}
-use Rattle.model.specs.Prices.{price}
+use Rattle.model.specs.Prices.{price, yearWeight}
 use Rattle.tables.specs.Layout.{Counted, Planned}
 
 -- the tables of columns that are priced by the hour: the columns of each are by year, plant or zone, and slice
@@ -38,6 +38,18 @@ pub record Hours (plan at : List ℕ) (c : Counts) (t y i : ℕ) : Type 0 where
 unfoldable pub hourPrice : Data → ℕ → ℕ → ℕ → ℕ
 hourPrice D t y i =
     getD (0 ∷ 0 ∷ 0 ∷ (genCost D y i + tax D y * emission D i) ∷ resCost D i ∷ 0 ∷ voll D ∷ surplusPenalty D ∷ sresVoLL D ∷ []) t 0
+
+-- A column's price in two factors
+
+-- the price of a unit of table k, or of a unit's hour where the table is priced by the hour
+unfoldable pub unitPrice : Data → ℕ → ℕ → ℕ → ℕ
+unitPrice D k y i =
+    let hour = hourPrice D k y i * yearWeight D y in
+    getD (yearWeight D y * (fixedOM D y i + on (candidate D i) (annuity D y i)) ∷ 0 ∷ 0 ∷ hour ∷ hour ∷ 0 ∷ hour ∷ hour ∷ hour ∷ yearWeight D y * resVoLL D ∷ []) k 0
+
+-- the hours of a slice, 1 in a table that is not priced by the hour
+unfoldable pub hoursOf : Data → ℕ → ℕ → ℕ
+hoursOf D k s = getD (1 ∷ 1 ∷ 1 ∷ duration D s ∷ duration D s ∷ 1 ∷ duration D s ∷ duration D s ∷ duration D s ∷ 1 ∷ []) k 1
 
 module _ (D : Data) (c : Counts) (x : Index → ℕ) where
   abbrev pub term : Index → ℕ

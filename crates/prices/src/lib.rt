@@ -1,4 +1,6 @@
 // The cost of a plan: Σ price·entry over all columns, year by year.
+pub mod column;
+
 use capped::Sum;
 use model::Counts;
 use tables::entries::by_plant;
@@ -44,7 +46,7 @@ ghost use Rattle.tables.specs.Layout.{Counted, Laid, Planned, planEntry};
 ghost use Rattle.prices.specs.Costs.{Hourly, Hours, setOf, firstsOf, hourPrice, capCost, slicesCost, hourlyCost, hoursCost, firmshortCost, yearCost};
 
 // FixedOM, and for a candidate the annuity: mills per MW and year.
-fn yearly_price(data: &[u32], at: &[usize; 43], c: Counts, y: usize, g: usize) -> u64
+pub fn yearly_price(data: &[u32], at: &[usize; 43], c: Counts, y: usize, g: usize) -> u64
     requires { ⌜ Laid (now «data») (now at) c × ((y < c .years) × (g < c .plants)) ⌝ }
     ensures { λ r. ⌜ r ≡ fixedOM (read (now («data» .entry))) y g + on (candidate (read (now («data» .entry))) g) (annuity (read (now («data» .entry))) y g) ⌝ }
 {
@@ -94,7 +96,7 @@ fn firmshort_cost(data: &[u32], plan: &[u32], at: &[usize; 43], cat: &[usize; 43
 }
 
 // The price of an hour without the factor W: of gen by plant and year, of reserve by plant, of the others one figure.
-fn hour_price(data: &[u32], at: &[usize; 43], c: Counts, t: usize, y: usize, i: usize) -> Sum
+pub fn hour_price(data: &[u32], at: &[usize; 43], c: Counts, t: usize, y: usize, i: usize) -> Sum
     requires { ⌜ Laid (now «data») (now at) c × (Hourly t × ((y < c .years) × (i < firstsOf c t))) ⌝ }
     ensures { λ r. ⌜ r ≡ cap (hourPrice (read (now («data» .entry))) t y i) ⌝ }
 {

@@ -1,6 +1,6 @@
 -- What the functions of the families cite: a row's two sums from the answers of the calls that make them, and the tests that decide which
 -- terms it has. A law takes the call's answer and the equations of its arguments, and gives the sum of the document's numbers. Assumes nothing.
-use mathlib.Core.Path.{_≡_, refl, sym, ap, ap₂, _∙_}
+use mathlib.Core.Path.{_≡_, refl, sym, ap, _∙_}
 use mathlib.Core.Bool.{Bool, true, false, not, _&&_, _||_}
 use mathlib.Core.Logic.{⊎-elim}
 use mathlib.Core.List.{List}
@@ -14,19 +14,17 @@ use Rattle.capped.specs.declared.Sum.{Sum}
 use Rattle.capped.specs.Cap.{cap, plus, plusIf, both}
 use Rattle.capped.proofs.Laws.{plus-cap, both-cap, le-or-lt}
 use Rattle.sums.specs.Sum.{sum, on}
-use Rattle.sums.specs.Span.{fine}
 use Rattle.sums.specs.declared.Box.{Box}
 use Rattle.sums.specs.Index.{index, boxOf}
 use Rattle.sums.proofs.Sums.{sum-cong}
 use Rattle.model.specs.declared.Counts.{Counts}
-use Rattle.model.specs.Counts.{sets, slicesOf, [yzs], [yz]}
-use Rattle.model.specs.Data.{read, prm, tableBoxes}
+use Rattle.model.specs.Counts.{sets, slicesOf, [yzs]}
 use Rattle.model.specs.Families.{familyOf}
-use Rattle.model.specs.Tests.{entriesFault}
-use Rattle.model.proofs.Sound.{entry-range}
-use Rattle.tables.specs.Layout.{Laid, Inside, planEntry}
+use Rattle.tables.specs.Layout.{Inside, planEntry}
 use Rattle.parts.specs.Years.{YearPart}
 use Rattle.terms.proofs.Laws.{plus-on}
+use Rattle.constants.specs.declared.Constant.{Constant}
+use Rattle.constants.proofs.Laws.{inside-at}
 use Rattle.rows.specs.declared.Sides.{Sides}
 use Rattle.rows.specs.Ready.{Ready, sidesWith, noSides}
 
@@ -55,10 +53,6 @@ nothing-plus u e = e ∙ ap cap (sym (zero-add u))
 pub plus-if-is : {r s : Sum} {n v : ℕ} (b : Bool) (m a : ℕ) → r ≡ plusIf b s (a * n) → s ≡ cap m → n ≡ v → r ≡ cap (m + on b (a * v))
 plus-if-is {v = v} b m a e h q = e ∙ rw (h, q) (plus-on b m (a * v))
 
--- a product of two entries, or of a number and an entry
-pub times-is : {a b u v : ℕ} → a ≡ u → b ≡ v → a * b ≡ u * v
-times-is e h = ap₂ (λ (m n : ℕ). m * n) e h
-
 -- a year's part stands for the plan, in a sum over the plants for which w stands for z
 pub part-sum : {plan part : List ℕ} {c : Counts} {t y s : ℕ} → YearPart plan part c t y → s < slicesOf c
     → {r : Sum} {w z : ℕ} (F : ℕ → ℕ → ℕ → ℕ) → r ≡ cap (sum (c .plants) (λ g. F w g (getD part (g * slicesOf c + s) 0))) → w ≡ z
@@ -71,23 +65,16 @@ module _ (N u v : ℕ) {a b : Sum} where
   pub plain : a ≡ cap u → b ≡ cap v → _≡_ {A = Sides} (record { above = a; below = b }) (record { above = cap (u + N * (0 - 0)); below = cap (v + N * (0 - 0)) })
   plain h k = rw (h, k, mul-zero, add-zero u, add-zero v)
 
-  pub constant : {r : Sides} {p m P M : ℕ} → r ≡ sidesWith a b N p m → p ≡ P → m ≡ M → a ≡ cap u → b ≡ cap v
-      → r ≡ record { above = cap (u + N * (P - M)); below = cap (v + N * (M - P)) }
+  pub constant : {r : Sides} {k K : Constant} → r ≡ sidesWith a b N k → k ≡ K → a ≡ cap u → b ≡ cap v
+      → r ≡ record { above = cap (u + N * (K .adds - K .takes)); below = cap (v + N * (K .takes - K .adds)) }
   unfolding sidesWith
-  constant e p m h k = e ∙ rw (p, m, h, k, plus-cap u, plus-cap v)
+  constant e q h k = e ∙ rw (q, h, k, plus-cap u, plus-cap v)
 
 pub no-terms : (N : ℕ) {r : Sides} → r ≡ noSides → r ≡ record { above = cap (0 + N * (0 - 0)); below = cap (0 + N * (0 - 0)) }
 unfolding noSides
 no-terms N e = e ∙ plain N 0 0 refl refl
 
 -- Tests
-
--- what the code's test of a number a says of the document's number b: as a flag, so that the parts under it compute
-pub flag-on : {a b : ℕ} (n : ℕ) → a ≡ b → a ≡ n → eqb b n ≡ true
-flag-on n e h = eq-eqb _ n (sym e ∙ h)
-
-pub flag-off : {a b : ℕ} (n : ℕ) → a ≡ b → (a ≡ n → ⊥) → eqb b n ≡ false
-flag-off n e h = ne-eqb _ n (λ q. h (e ∙ q))
 
 -- the first hour of a day, t = 0, and a later one
 pub first-hour : {b : Bool} (t : ℕ) → b ≡ eqb t 0 → b ≡ true → ltb 0 t ≡ false
@@ -129,18 +116,7 @@ module _ {r : Bool} {kind year K Y : ℕ} (now : ℕ) (e : r ≡ not (out kind y
 pub zone-slice : {c : Counts} {y z s : ℕ} → y < c .years → z < c .zones → s < slicesOf c → Inside c [yzs] y z 0 s
 zone-slice hy hz hs = record { year = hy; «first» = hz; second = omega arith; slice = hs }
 
-pub year-zone : {c : Counts} {y z : ℕ} → y < c .years → z < c .zones → Inside c [yz] y z 0 0
-year-zone hy hz = record { year = hy; «first» = hz; second = omega arith; slice = omega arith }
-
--- PRM of data that passed refusal 3
-pub few-prm : {l at : List ℕ} {c : Counts} {z : ℕ} → Laid l at c → entriesFault (read l) ≡ fine → z < c .zones → prm (read l) z ≤ 1000
-unfolding tableBoxes
-few-prm {l} {z = z} n e h = entry-range (read l) e 28 0 z 0 0 (omega arith, omega arith, rw (n .counts) h, omega arith, omega arith) .1
-
 -- The dispatcher: what an arm knows of the four indices, by its key
-
-pub inside-at : {c : Counts} {k y i j s : ℕ} (K : ℕ) → k ≡ K → Inside c (familyOf k .set) y i j s → Inside c (familyOf K .set) y i j s
-inside-at K e m = rw e at m
 
 -- the arms of the families with a year, a first index and a slice, and of those with a year and a first index
 module _ {l plan os rs energy at cat : List ℕ} {c : Counts} {k y i j s : ℕ} (K : ℕ) (e : k ≡ K)

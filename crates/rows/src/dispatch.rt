@@ -1,6 +1,6 @@
 // Families 5 to 11: the rows of a plant's dispatch.
 use crate::Sides;
-use crate::constants::empty;
+use crate::two_sums::empty;
 use energy::totals::energy_at;
 use model::Counts;
 use parts::slices::day_of;

@@ -1,32 +1,27 @@
 // Families 12 to 20: the rows of the fleet: capacity, builds, fuel, capital and emissions.
 use crate::Sides;
-use crate::constants::empty;
-use crate::constants::with_constant;
+use crate::two_sums::empty;
+use crate::two_sums::with_constant;
 use capped::Sum;
+use constants::fleet::capital_constant;
+use constants::fleet::fuel_use_constant;
+use constants::fleet::new_capacity_constant;
+use constants::fleet::stock_constant;
+use constants::fleet::system_emission_constant;
+use constants::fleet::yearly_build_constant;
+use constants::fleet::zone_emission_constant;
 use energy::totals::burned;
 use energy::totals::emitted;
 use energy::totals::emitted_in;
 use model::Counts;
 use parts::slices::long;
 use tables::entries::by_plant;
-use tables::entries::by_year;
-use tables::entries::by_year_fuel;
-use tables::entries::by_year_zone;
 use tables::entries::planned_by_year_plant;
-use tables::entries::single;
 use tables::names::BUILD;
-use tables::names::BUILD_LIMIT;
 use tables::names::CAP;
-use tables::names::GEN_CAP;
 use tables::names::KIND;
-use tables::names::MAX_CAPITAL;
-use tables::names::MAX_FUEL;
-use tables::names::MAX_NEW_CAP;
 use tables::names::RETIRE;
-use tables::names::SYSTEM_CAP;
-use tables::names::WEIGHT;
 use tables::names::YEAR;
-use tables::names::ZONE_CAP;
 use terms::plants::build_sum;
 use terms::plants::capital_sum;
 ghost use mathlib.Core.Path.{_≡_};
@@ -62,7 +57,7 @@ pub fn stock(
         };
     }
     if y == 0 {
-        return with_constant(own, earlier, scale, 0, by_plant(data, at, c, GEN_CAP, g));
+        return with_constant(own, earlier, scale, stock_constant(data, at, c, y, g));
     }
     Sides {
         above: capped::add_product(own, 1, planned_by_year_plant(plan, cat, c, RETIRE, y, g)),
@@ -128,8 +123,7 @@ pub fn new_capacity(
         capped::zero(),
         build_sum(plan, cat, c, g),
         scale,
-        by_plant(data, at, c, MAX_NEW_CAP, g),
-        0,
+        new_capacity_constant(data, at, c, g),
     )
 }
 
@@ -144,13 +138,11 @@ pub fn yearly_build(
     if by_plant(data, at, c, KIND, g) == 0 {
         return empty();
     }
-    let limit = by_year(data, at, c, BUILD_LIMIT, y) * by_year(data, at, c, WEIGHT, y);
     with_constant(
         capped::zero(),
         capped::product(1, planned_by_year_plant(plan, cat, c, BUILD, y, g)),
         scale,
-        limit,
-        0,
+        yearly_build_constant(data, at, c, y, g),
     )
 }
 
@@ -162,13 +154,11 @@ pub fn fuel_use(
     requires { ⌜ Ready (now «data») (now plan) (now outputs) (now reserves) (now energy) (now at) (now cat) c y × ((y < c .years) × ((z < c .zones) × (f < c .fuels))) ⌝ }
     ensures { λ r. ⌜ r ≡ sidesOf (read (now («data» .entry))) scale (planEntry c (now (plan .entry))) (row 17 y z f 0) ⌝ }
 {
-    let limit = 1000 * by_year_fuel(data, at, c, MAX_FUEL, y, f);
     with_constant(
         capped::zero(),
         burned(data, at, c, energy, y, long(z), long(f)),
         scale,
-        limit,
-        0,
+        fuel_use_constant(data, at, c, y, f),
     )
 }
 
@@ -180,13 +170,11 @@ pub fn capital(
     requires { ⌜ Ready (now «data») (now plan) (now outputs) (now reserves) (now energy) (now at) (now cat) c 0 ⌝ }
     ensures { λ r. ⌜ r ≡ sidesOf (read (now («data» .entry))) scale (planEntry c (now (plan .entry))) (row 18 0 0 0 0) ⌝ }
 {
-    let limit = 1000000000 * single(data, at, c, MAX_CAPITAL);
     with_constant(
         capped::zero(),
         capital_sum(data, plan, at, cat, c),
         scale,
-        limit,
-        0,
+        capital_constant(data, at, c),
     )
 }
 
@@ -198,13 +186,11 @@ pub fn zone_emission(
     requires { ⌜ Ready (now «data») (now plan) (now outputs) (now reserves) (now energy) (now at) (now cat) c y × ((y < c .years) × (z < c .zones)) ⌝ }
     ensures { λ r. ⌜ r ≡ sidesOf (read (now («data» .entry))) scale (planEntry c (now (plan .entry))) (row 19 y z 0 0) ⌝ }
 {
-    let limit = 1000 * by_year_zone(data, at, c, ZONE_CAP, y, z);
     with_constant(
         capped::zero(),
         emitted_in(data, at, c, energy, y, long(z)),
         scale,
-        limit,
-        0,
+        zone_emission_constant(data, at, c, y, z),
     )
 }
 
@@ -216,13 +202,11 @@ pub fn system_emission(
     requires { ⌜ Ready (now «data») (now plan) (now outputs) (now reserves) (now energy) (now at) (now cat) c y × (y < c .years) ⌝ }
     ensures { λ r. ⌜ r ≡ sidesOf (read (now («data» .entry))) scale (planEntry c (now (plan .entry))) (row 20 y 0 0 0) ⌝ }
 {
-    let limit = 1000 * by_year(data, at, c, SYSTEM_CAP, y);
     with_constant(
         capped::zero(),
         emitted(data, at, c, energy, y),
         scale,
-        limit,
-        0,
+        system_emission_constant(data, at, c, y),
     )
 }
 

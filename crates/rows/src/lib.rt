@@ -1,8 +1,8 @@
-// The rows of the twenty families on a plan: their two sums, the test of a row, and the walk over all rows.
-pub mod constants;
+// The rows of the twenty families on a plan: the two sums of each.
 pub mod dispatch;
+pub mod families;
 pub mod fleet;
-pub mod walk;
+pub mod two_sums;
 pub mod zones;
 
 use capped::Sum;

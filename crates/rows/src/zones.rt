@@ -1,32 +1,23 @@
 // Families 1 to 4: the rows of a zone.
 use crate::Sides;
-use crate::constants::with_constant;
-use energy::peak::zone_peak;
+use crate::two_sums::with_constant;
+use constants::zones::balance_constant;
+use constants::zones::firm_constant;
+use constants::zones::spinning_constant;
+use constants::zones::transfer_constant;
 use model::Counts;
 use parts::slices::long;
-use parts::slices::season_of;
-use tables::entries::by_link_season;
-use tables::entries::by_year_zone;
-use tables::entries::by_year_zone_slice;
-use tables::entries::by_zone;
 use tables::entries::planned_by_link_slice;
 use tables::entries::planned_by_year_zone;
 use tables::entries::planned_by_zone_slice;
 use tables::entries::single;
-use tables::names::DEMAND;
-use tables::names::EE;
 use tables::names::ERR;
 use tables::names::FIRMSHORT;
-use tables::names::PRM;
-use tables::names::S_RES;
 use tables::names::SPINSHORT;
 use tables::names::SURPLUS;
-use tables::names::TL;
 use tables::names::TRANS;
 use tables::names::UNMET;
 use terms::links::arriving;
-use terms::links::limits_into;
-use terms::links::limits_into_all_seasons;
 use terms::links::received;
 use terms::links::sent;
 use terms::plants::credit_sum;
@@ -60,9 +51,7 @@ pub fn balance(
         1,
         planned_by_zone_slice(plan, cat, c, SURPLUS, y, z, s),
     );
-    let demand = by_year_zone_slice(data, at, c, DEMAND, y, z, s)
-        * by_year_zone(data, at, c, EE, y, z);
-    with_constant(above, below, scale, 0, demand)
+    with_constant(above, below, scale, balance_constant(data, at, c, y, z, s))
 }
 
 // 2 (15): trans ≤ TL
@@ -74,8 +63,7 @@ pub fn transfer(
     ensures { λ r. ⌜ r ≡ sidesOf (read (now («data» .entry))) scale (planEntry c (now (plan .entry))) (row 2 y z w s) ⌝ }
 {
     let below = capped::product(1, planned_by_link_slice(plan, cat, c, TRANS, y, z, w, s));
-    let limit = by_link_season(data, at, c, TL, y, z, w, season_of(c, s));
-    with_constant(capped::zero(), below, scale, limit, 0)
+    with_constant(capped::zero(), below, scale, transfer_constant(data, at, c, y, z, w, s))
 }
 
 // 3 (19): 1000·Σ reserve in z + spinshort + 1000·Σ (TL[z2,z] − trans[z2,z]) ≥ 1000·SRes + Err·Σ gen of VRE in z
@@ -97,9 +85,7 @@ pub fn spinning(
         arriving(plan, cat, c, y, z, s),
         vre_sum(data, at, c, outputs, long(z), err, s),
     );
-    let links = 1000 * limits_into(data, at, c, y, z, season_of(c, s));
-    let asked = 1000 * by_year_zone(data, at, c, S_RES, y, z);
-    with_constant(above, below, scale, links, asked)
+    with_constant(above, below, scale, spinning_constant(data, at, c, y, z, s))
 }
 
 // 4 (21): Σ CapCredit·cap + firmshort + 1000·Σ TL[z2,z] over z2 and all seasons ≥ (1000 + PRM)·peak
@@ -116,7 +102,5 @@ pub fn firm(
         1,
         planned_by_year_zone(plan, cat, c, FIRMSHORT, y, z),
     );
-    let links = 1000 * limits_into_all_seasons(data, at, c, y, z);
-    let asked = (1000 + by_zone(data, at, c, PRM, z)) * zone_peak(data, at, c, y, z);
-    with_constant(above, capped::zero(), scale, links, asked)
+    with_constant(above, capped::zero(), scale, firm_constant(data, at, c, y, z))
 }

@@ -27,6 +27,14 @@ pub fn table_box(c: Counts, t: usize) -> Box
     box_of(c, TABLE_SETS[t])
 }
 
+// The index set of a table of columns.
+pub fn column_box(c: Counts, k: usize) -> Box
+    requires { ⌜ Counted c × (k < 10) ⌝ }
+    ensures { λ r. ⌜ (r ≡ boxOf (sets c) (getD columnSets k 0)) × Small r ⌝ }
+{
+    box_of(c, COLUMN_SETS[k])
+}
+
 // Where each of the kinds starts that a list of index sets names, and after the last of them where the list ends.
 fn starts_from(c: Counts, kinds: &[usize], from: usize) -> [usize; 43]
     requires { ⌜ Counted c × ((length (now kinds) ≤ 42) × (from ≤ 7)) ⌝ }

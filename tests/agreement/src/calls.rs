@@ -13,6 +13,18 @@ extern "C" {
         out_len: usize,
     ) -> u32;
 
+    fn epm_certify(
+        data: *const u32,
+        data_len: usize,
+        scale: u32,
+        plan: *const u32,
+        plan_len: usize,
+        multipliers: *const i64,
+        multipliers_len: usize,
+        out: *mut u64,
+        out_len: usize,
+    ) -> u32;
+
     fn epm_post(
         data: *const u32,
         data_len: usize,
@@ -41,6 +53,29 @@ pub fn raw_check(data: &[u32], scale: u32, plan: &[u32], out: &mut [u64]) -> u32
             scale,
             plan.as_ptr(),
             plan.len(),
+            out.as_mut_ptr(),
+            out.len(),
+        )
+    }
+}
+
+/// The call as it is exported: its status, and what it writes to `out`.
+pub fn raw_certify(
+    data: &[u32],
+    scale: u32,
+    plan: &[u32],
+    multipliers: &[i64],
+    out: &mut [u64],
+) -> u32 {
+    unsafe {
+        epm_certify(
+            data.as_ptr(),
+            data.len(),
+            scale,
+            plan.as_ptr(),
+            plan.len(),
+            multipliers.as_ptr(),
+            multipliers.len(),
             out.as_mut_ptr(),
             out.len(),
         )
@@ -76,9 +111,21 @@ pub fn raw_post(
 
 /// The cost, or the refusal.
 pub fn check(data: &[u32], scale: u32, plan: &[u32]) -> Result<u64, Refusal> {
-    let mut out = [0; 2];
+    let mut out = OLD;
     let status = raw_check(data, scale, plan, &mut out);
-    answer(status, out[0])
+    answer(status, out, cost_alone)
+}
+
+/// The cost and the gap, or the refusal.
+pub fn certify(
+    data: &[u32],
+    scale: u32,
+    plan: &[u32],
+    multipliers: &[i64],
+) -> Result<(u64, u64), Refusal> {
+    let mut out = OLD;
+    let status = raw_certify(data, scale, plan, multipliers, &mut out);
+    answer(status, out, |out| (out[0], out[1]))
 }
 
 /// The cost, or the refusal; the board is written where the cost is answered.
@@ -90,17 +137,30 @@ pub fn post(
     board: &mut [u32],
     start: usize,
 ) -> Result<u64, Refusal> {
-    let mut out = [0; 2];
+    let mut out = OLD;
     let status = raw_post(data, scale, plan, year, board, start, &mut out);
-    answer(status, out[0])
+    answer(status, out, cost_alone)
 }
 
-fn answer(status: u32, first: u64) -> Result<u64, Refusal> {
+/// What stands in `out` before a call; no answer leaves it there.
+const OLD: [u64; 2] = [u64::MAX; 2];
+
+fn cost_alone(out: [u64; 2]) -> u64 {
+    assert_eq!(out[1], 0, "a cost has one figure");
+    out[0]
+}
+
+fn answer<T>(
+    status: u32,
+    out: [u64; 2],
+    figures: impl FnOnce([u64; 2]) -> T,
+) -> Result<T, Refusal> {
     match status {
-        0 => Ok(first),
-        number => Err(Refusal {
-            number,
-            place: first,
-        }),
+        0 => Ok(figures(out)),
+        number => {
+            assert_eq!(out[1], 0, "a refusal has one figure");
+            let place = out[0];
+            Err(Refusal { number, place })
+        }
     }
 }

@@ -1,94 +1,127 @@
 //! Seeded inputs through both implementations, with counts of what was met.
 
 use crate::calls;
+use epm_reference::calls::column_loads;
+use epm_reference::generator::anything::{any_contents, any_lists, steep};
 use epm_reference::generator::draft::Case;
-use epm_reference::generator::{case, extremes};
-use epm_reference::refusal::{BROKEN, WORDS};
-use epm_reference::rows::{RowLayout, FAMILIES, FAMILY_COUNT};
-use epm_reference::{data, Refusal};
-use std::fmt;
+use epm_reference::generator::random::Random;
+use epm_reference::generator::stations::stations;
+use epm_reference::generator::{case, extremes, multiplier_edges, twice_damaged_case};
+use epm_reference::met::{absent, Met};
+use epm_reference::model::Model;
+use epm_reference::refusal::{
+    Refusal, BROKEN, COLUMN_OFF_SCALE, MULTIPLIER, ROW_OFF_SCALE, UNDERPRICED,
+};
+use std::fmt::{self, Debug};
 
-/// Refusals that check and post can give, by number.
-pub const REFUSALS: [u32; 9] = [1, 2, 3, 4, 5, 6, 7, 8, 14];
+/// Refusals that post can give, by number. Check gives those up to 8.
+const OF_POST: [u32; 9] = [1, 2, 3, 4, 5, 6, 7, 8, 14];
+
+/// Refusals that certify can give, by number.
+const OF_CERTIFY: [u32; 13] = [1, 2, 3, 4, 5, 6, 7, 8, 9, 10, 11, 12, 13];
 
 /// What was met, and where the two differed.
 #[derive(Default)]
 pub struct Agreement {
     pub inputs: u64,
-    pub accepted: u64,
+    pub posted: u64,
+    /// Boards that post changed.
     pub written: u64,
-    pub refusals: [u64; WORDS.len()],
-    pub broken: [u64; FAMILY_COUNT],
+    pub by_post: Met,
+    pub certified: u64,
+    /// Certificates with three quarters of their multipliers not 0.
+    pub far_from_zero: u64,
+    /// Certificates with a multiplier below 0.
+    pub below_zero: u64,
+    /// Certificates whose bound, cost less gap, is above 0.
+    pub bounds_above_zero: u64,
+    pub by_certify: Met,
+    /// First columns off scale that are underpriced as well.
+    pub off_scale_and_underpriced: u64,
     pub differences: Vec<String>,
 }
 
-/// The inputs of seeds 0..inputs, and the cases at the limit of the sums.
+/// The inputs of seeds 0..inputs, the station's ten cases, the cases at the limit
+/// of the sums, multipliers at the ends of their ranges, cases with two faults and
+/// lists of any content.
 pub fn measure(inputs: u64) -> Agreement {
     let mut agreement = Agreement::default();
     for seed in 0..inputs {
         agreement.compare(&format!("seed {seed}"), &case(seed).case);
     }
-    for (place, generated) in extremes::all().iter().enumerate() {
-        agreement.compare(&format!("extreme {place}"), &generated.case);
+    for (place, station) in stations().iter().enumerate() {
+        agreement.compare(&format!("station {place}"), &station.case());
+    }
+    for extreme in extremes::all() {
+        agreement.compare(extreme.name, &extreme.case);
+    }
+    for seed in 0..inputs / 200 {
+        for case in multiplier_edges(seed) {
+            agreement.compare(&format!("multiplier edge, seed {seed}"), &case);
+        }
+    }
+    let mut random = Random::new(inputs);
+    for seed in 0..inputs / 10 {
+        agreement.compare("two faults", &twice_damaged_case(&mut random));
+        agreement.compare("any lists", &any_lists(&mut random, seed as usize % 400));
+        agreement.compare("any contents", &any_contents(&mut random));
+        agreement.compare("steep", &steep(&mut random));
     }
     agreement
 }
 
 impl Agreement {
-    /// Both calls on one case, answers and boards.
+    /// The three calls on one case, answers and boards.
     pub fn compare(&mut self, label: &str, case: &Case) {
         self.inputs += 1;
-        let expected = epm_reference::check(&case.data, case.scale, &case.plan);
-        let answered = calls::check(&case.data, case.scale, &case.plan);
-        if expected != answered {
-            self.differ(label, "check", &expected, &answered);
-        }
+        let (data, scale, plan) = (&case.data, case.scale, &case.plan);
+        let expected = epm_reference::check(data, scale, plan);
+        let answered = calls::check(data, scale, plan);
+        self.hold(label, "check", &expected, &answered);
+
+        let expected = epm_reference::certify(data, scale, plan, &case.multipliers);
+        let answered = calls::certify(data, scale, plan, &case.multipliers);
+        self.hold(label, "certify", &expected, &answered);
+        self.count_certify(case, expected);
 
         let mut expected_board = case.board.clone();
         let mut board = case.board.clone();
-        let expected = epm_reference::post(
-            &case.data,
-            case.scale,
-            &case.plan,
-            case.year,
-            &mut expected_board,
-            case.start,
-        );
-        let answered = calls::post(
-            &case.data, case.scale, &case.plan, case.year, &mut board, case.start,
-        );
+        let (year, start) = (case.year, case.start);
+        let expected = epm_reference::post(data, scale, plan, year, &mut expected_board, start);
+        let answered = calls::post(data, scale, plan, year, &mut board, start);
+        self.hold(label, "post", &expected, &answered);
+        let place = (0..board.len()).find(|&i| board[i] != expected_board[i]);
+        self.hold(label, "the board, first place that differs", &None, &place);
+        self.written += u64::from(board != case.board);
+        match expected {
+            Ok(_) => self.posted += 1,
+            Err(refusal) => self.by_post.count(data, refusal),
+        }
+    }
+
+    fn hold<T: PartialEq + Debug>(&mut self, label: &str, call: &str, expected: &T, answered: &T) {
         if expected != answered {
-            self.differ(label, "post", &expected, &answered);
+            self.differences.push(format!(
+                "{label}: {call} answered {answered:?}, the second implementation {expected:?}"
+            ));
         }
-        if let Some(place) = (0..board.len()).find(|&i| board[i] != expected_board[i]) {
-            self.differences
-                .push(format!("{label}: the boards differ at place {place}"));
-        }
-        self.count(case, &expected, expected_board != case.board);
     }
 
-    fn differ(
-        &mut self,
-        label: &str,
-        call: &str,
-        expected: &Result<u64, Refusal>,
-        answered: &Result<u64, Refusal>,
-    ) {
-        self.differences.push(format!(
-            "{label}: {call} answered {answered:?}, the second implementation {expected:?}"
-        ));
-    }
-
-    fn count(&mut self, case: &Case, answer: &Result<u64, Refusal>, written: bool) {
-        self.written += u64::from(written);
+    fn count_certify(&mut self, case: &Case, answer: Result<(u64, u64), Refusal>) {
         match answer {
-            Ok(_) => self.accepted += 1,
+            Ok((cost, gap)) => {
+                let multipliers = &case.multipliers;
+                let used = multipliers.iter().filter(|m| **m != 0).count();
+                self.certified += 1;
+                self.far_from_zero += u64::from(4 * used >= 3 * multipliers.len());
+                self.below_zero += u64::from(multipliers.iter().any(|m| *m < 0));
+                self.bounds_above_zero += u64::from(cost > gap);
+            }
             Err(refusal) => {
-                self.refusals[refusal.number as usize - 1] += 1;
-                if refusal.number == BROKEN {
-                    let shape = data::read_shape(&case.data).expect("rows come after the counts");
-                    let family = RowLayout::new(shape).family(refusal.place as usize);
-                    self.broken[family.expect("a row") - 1] += 1;
+                self.by_certify.count(&case.data, refusal);
+                if refusal.number == COLUMN_OFF_SCALE {
+                    let both = is_underpriced(case, refusal.place as usize);
+                    self.off_scale_and_underpriced += u64::from(both);
                 }
             }
         }
@@ -97,46 +130,59 @@ impl Agreement {
     /// What was not met, and every difference.
     pub fn failures(&self) -> Vec<String> {
         let mut failures = self.differences.clone();
-        for number in REFUSALS {
-            if self.refusals[number as usize - 1] == 0 {
-                failures.push(format!("refusal {number} was not met"));
-            }
-        }
-        for (count, family) in self.broken.iter().zip(&FAMILIES) {
-            if *count == 0 {
-                failures.push(format!("family {} was never first broken", family.number));
-            }
-        }
-        if self.accepted == 0 || self.written == 0 {
-            failures.push("no accepted input, or no board written".to_string());
-        }
+        let mut missing = self.by_post.missing(&OF_POST);
+        missing.extend(self.by_certify.missing(&OF_CERTIFY));
+        missing.extend(self.by_certify.missing_places(&[
+            ROW_OFF_SCALE,
+            BROKEN,
+            MULTIPLIER,
+            COLUMN_OFF_SCALE,
+            UNDERPRICED,
+        ]));
+        missing.extend(absent(&[
+            (self.written, "a board written"),
+            (self.far_from_zero, "a certificate far from zero"),
+            (self.below_zero, "a certificate with a multiplier below 0"),
+            (self.bounds_above_zero, "a bound above 0"),
+            (self.off_scale_and_underpriced, "11 before 12 in a column"),
+        ]));
+        failures.extend(missing.iter().map(|word| format!("not met: {word}")));
         failures
     }
+}
+
+/// Whether a column's price is below its Σ m·a.
+fn is_underpriced(case: &Case, column: usize) -> bool {
+    let model = Model::read(&case.data).expect("columns come after the data");
+    let load = column_loads(&model, &case.multipliers)[column];
+    model.price(column) < load.value()
 }
 
 impl fmt::Display for Agreement {
     fn fmt(&self, f: &mut fmt::Formatter<'_>) -> fmt::Result {
         writeln!(
             f,
-            "check and post on {} inputs: {} accepted, {} boards changed, {} differences",
+            "check, certify and post on {} inputs: {} differences",
             self.inputs,
-            self.accepted,
-            self.written,
             self.differences.len()
         )?;
-        writeln!(f, "refusals of post:")?;
-        for number in REFUSALS {
-            let place = number as usize - 1;
-            writeln!(
-                f,
-                "  {:2} {:28} {:6}",
-                number, WORDS[place], self.refusals[place]
-            )?;
-        }
-        writeln!(f, "first broken row of family:")?;
-        for (count, family) in self.broken.iter().zip(&FAMILIES) {
-            writeln!(f, "  {:2} {:6}", family.number, count)?;
-        }
-        Ok(())
+        writeln!(f, "certify: {} accepted", self.certified)?;
+        writeln!(
+            f,
+            "  three quarters of the multipliers not 0 {}, some below 0 {}, bound above 0 {}",
+            self.far_from_zero, self.below_zero, self.bounds_above_zero
+        )?;
+        write!(f, "{}", self.by_certify.table(&OF_CERTIFY))?;
+        writeln!(
+            f,
+            "  columns off scale that are underpriced as well {}",
+            self.off_scale_and_underpriced
+        )?;
+        writeln!(
+            f,
+            "post: {} accepted, {} boards changed",
+            self.posted, self.written
+        )?;
+        writeln!(f, "  refusals {}", self.by_post.line(&OF_POST))
     }
 }

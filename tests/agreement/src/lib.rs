@@ -1,8 +1,14 @@
-//! Safe functions over the proved calls of the static library, and the
-//! comparison of their answers with the second implementation's.
+//! Safe functions over the proved calls of the static library, the proved program,
+//! and the comparison of their answers with the second implementation's.
 
 mod calls;
 mod compare;
+mod program;
+mod rivals;
+mod verdict;
 
-pub use calls::{check, post, raw_check, raw_post, SHORT_OUT};
+pub use calls::{certify, check, post, raw_certify, raw_check, raw_post, SHORT_OUT};
 pub use compare::{measure, Agreement};
+pub use program::{measure_program, program, run_in_pieces, run_program, ProgramAgreement};
+pub use rivals::measure_rivals;
+pub use verdict::{seeds, verdict};

@@ -1,8 +1,12 @@
 //! The exported calls at the edges of what a caller can hand over.
 
-use epm_agreement::{check, measure, post, raw_check, raw_post, Agreement, SHORT_OUT};
+use epm_agreement::{
+    certify, check, measure, measure_rivals, post, raw_certify, raw_check, raw_post, Agreement,
+    SHORT_OUT,
+};
 use epm_reference::generator::random::Random;
 use epm_reference::generator::{shape, sound_case};
+use epm_reference::rows::RowLayout;
 use epm_reference::shape::Shape;
 use epm_reference::Refusal;
 
@@ -11,7 +15,11 @@ const UNTOUCHED: u64 = 0x5555_5555_5555_5555;
 #[test]
 fn the_calls_agree_on_seeded_inputs() {
     let agreement = measure(1000);
-    assert!(agreement.differences.is_empty(), "{:?}", agreement.differences);
+    assert!(
+        agreement.differences.is_empty(),
+        "{:?}",
+        agreement.differences
+    );
 }
 
 #[test]
@@ -19,7 +27,18 @@ fn a_short_out_is_refused_and_nothing_is_written() {
     let case = sound_case(Shape::new([1; 7]), 1);
     for length in 0..2 {
         let mut out = vec![UNTOUCHED; length];
-        assert_eq!(raw_check(&case.data, case.scale, &case.plan, &mut out), SHORT_OUT);
+        assert_eq!(
+            raw_check(&case.data, case.scale, &case.plan, &mut out),
+            SHORT_OUT
+        );
+        let status = raw_certify(
+            &case.data,
+            case.scale,
+            &case.plan,
+            &case.multipliers,
+            &mut out,
+        );
+        assert_eq!(status, SHORT_OUT);
         let mut board = vec![7; case.board.len()];
         let status = raw_post(
             &case.data, case.scale, &case.plan, 0, &mut board, 0, &mut out,
@@ -38,26 +57,92 @@ fn only_the_first_two_words_of_out_are_written() {
     assert_ne!(out[0], UNTOUCHED);
     assert_eq!(out[1], 0);
     assert!(out[2..].iter().all(|word| *word == UNTOUCHED));
+
+    let (cost, gap) =
+        certify(&case.data, case.scale, &case.plan, &case.multipliers).expect("a sound case");
+    let mut out = [UNTOUCHED; 5];
+    let mut multipliers = case.multipliers.clone();
+    let status = raw_certify(&case.data, case.scale, &case.plan, &multipliers, &mut out);
+    assert_eq!(status, 0);
+    assert_eq!(out, [cost, gap, UNTOUCHED, UNTOUCHED, UNTOUCHED]);
+    multipliers[19] = -1;
+    let status = raw_certify(&case.data, case.scale, &case.plan, &multipliers, &mut out);
+    assert_eq!(status, 10);
+    assert_eq!(out, [19, 0, UNTOUCHED, UNTOUCHED, UNTOUCHED]);
 }
 
 #[test]
 fn empty_and_very_long_lists_are_answered() {
     let long = vec![1; 3_000_000];
     let empty: [u32; 0] = [];
-    let short = Refusal { number: 2, place: 7 };
+    let short = Refusal {
+        number: 2,
+        place: 7,
+    };
     assert_eq!(check(&empty, 1, &empty), Err(short));
     assert_eq!(check(&empty, 1, &long), Err(short));
     for data in [&long[..], &[8, 32, 8, 4, 4, 24, 10][..]] {
-        assert_eq!(
-            check(data, 1, &long),
-            epm_reference::check(data, 1, &long)
-        );
+        assert_eq!(check(data, 1, &long), epm_reference::check(data, 1, &long));
     }
     let case = sound_case(Shape::new([1; 7]), 3);
     assert_eq!(
         check(&case.data, case.scale, &long),
         epm_reference::check(&case.data, case.scale, &long)
     );
+
+    let long_multipliers = vec![1; 3_000_000];
+    let count = Refusal {
+        number: 9,
+        place: 20,
+    };
+    for multipliers in [&[][..], &long_multipliers] {
+        assert_eq!(certify(&empty, 1, &empty, multipliers), Err(short));
+        assert_eq!(
+            certify(&long, 1, &long, multipliers),
+            check(&long, 1, &long).map(|_| (0, 0))
+        );
+        let answer = certify(&case.data, case.scale, &case.plan, multipliers);
+        assert_eq!(answer, Err(count));
+    }
+}
+
+#[test]
+fn no_rival_is_below_a_certificate() {
+    let rivals = measure_rivals(100);
+    assert!(rivals.failures().is_empty(), "{:?}", rivals.failures());
+}
+
+/// The largest shape, more than a million rows: accepted, and with a fault in the
+/// last column and in the last row.
+#[test]
+fn the_calls_agree_at_full_size() {
+    let mut case = sound_case(Shape::new([8, 32, 8, 4, 4, 24, 10]), 1);
+    let used = case.multipliers.iter().filter(|m| **m != 0).count();
+    assert!(
+        2 * used > case.multipliers.len(),
+        "{used} multipliers are not 0"
+    );
+    let mut agreement = Agreement::default();
+    agreement.compare("full size", &case);
+    assert!(
+        agreement.differences.is_empty(),
+        "{:?}",
+        agreement.differences
+    );
+    assert_eq!((agreement.certified, agreement.posted), (1, 1));
+
+    // RESVoLL, the third of six singles, is the price of firmshort; (21) of the
+    // last year and zone asks 1 of the last of these columns.
+    let price = case.data.len() - 4;
+    let rows = RowLayout::new(Shape::new([8, 32, 8, 4, 4, 24, 10]));
+    case.data[price] = 0;
+    case.multipliers.fill(0);
+    case.multipliers[rows.index(4, &[9, 7])] = 1;
+    let answer = certify(&case.data, case.scale, &case.plan, &case.multipliers);
+    assert_eq!(answer, Err(Refusal::at(12, case.plan.len() - 1)));
+    *case.multipliers.last_mut().expect("a row") = -1;
+    let answer = certify(&case.data, case.scale, &case.plan, &case.multipliers);
+    assert_eq!(answer, Err(Refusal::at(10, rows.count() - 1)));
 }
 
 #[test]
@@ -68,14 +153,29 @@ fn the_board_at_its_ends() {
         let places = case.data[1] as usize * (case.data[3] * case.data[4] * case.data[5]) as usize;
         let years = case.data[6] as usize;
         for length in [0, places - 1, places, places + 3] {
-            for start in [0, 1, 3, 4, places, length, length + 1, usize::MAX, usize::MAX - places] {
+            for start in [
+                0,
+                1,
+                3,
+                4,
+                places,
+                length,
+                length + 1,
+                usize::MAX,
+                usize::MAX - places,
+            ] {
                 for year in [0, years - 1, years, usize::MAX] {
                     let mut expected = vec![9; length];
                     let mut board = vec![9; length];
                     assert_eq!(
                         post(&case.data, case.scale, &case.plan, year, &mut board, start),
                         epm_reference::post(
-                            &case.data, case.scale, &case.plan, year, &mut expected, start
+                            &case.data,
+                            case.scale,
+                            &case.plan,
+                            year,
+                            &mut expected,
+                            start
                         ),
                     );
                     assert_eq!(board, expected);
@@ -104,8 +204,25 @@ fn both_sides_of_every_limit() {
             }
         }
         for place in 7..case.data.len() {
-            for number in [0, 1, 2, 20, 21, 1000, 1001, 5000, 5001, 8784, 8785, 10000, 10001, 100000, 100001, u32::MAX] {
-                if random.chance(1, 8) {
+            for number in [
+                0,
+                1,
+                2,
+                20,
+                21,
+                1000,
+                1001,
+                5000,
+                5001,
+                8784,
+                8785,
+                10000,
+                10001,
+                100000,
+                100001,
+                u32::MAX,
+            ] {
+                if random.chance(1, 24) {
                     let mut other = case.clone();
                     other.data[place] = number;
                     agreement.compare("entry", &other);
@@ -113,12 +230,18 @@ fn both_sides_of_every_limit() {
             }
         }
         for place in 0..case.plan.len() {
-            if random.chance(1, 2) {
+            if random.chance(1, 6) {
                 let mut other = case.clone();
-                other.plan[place] = random.pick(&[0, 1, other.plan[place] / 2, u32::MAX]).wrapping_add(random.below(2) as u32);
+                other.plan[place] = random
+                    .pick(&[0, 1, other.plan[place] / 2, u32::MAX])
+                    .wrapping_add(random.below(2) as u32);
                 agreement.compare("plan", &other);
             }
         }
     }
-    assert!(agreement.differences.is_empty(), "{:?}", &agreement.differences[..3.min(agreement.differences.len())]);
+    assert!(
+        agreement.differences.is_empty(),
+        "{:?}",
+        &agreement.differences[..3.min(agreement.differences.len())]
+    );
 }

@@ -2,17 +2,17 @@
 //! first broken row, every table of columns as the first underpriced.
 
 use crate::calls::{certify, check, post};
-use crate::columns::{ColumnLayout, COLUMNS, COLUMN_TABLES};
-use crate::data::read_shape;
 use crate::generator::case;
 use crate::generator::draft::Case;
 use crate::generator::frames;
 use crate::generator::random::Random;
+use crate::met::{absent, Met};
 use crate::program;
-use crate::refusal::{Refusal, BROKEN, UNDERPRICED, WORDS};
-use crate::rows::{RowLayout, FAMILIES, FAMILY_COUNT};
-use std::collections::BTreeSet;
+use crate::refusal::{Refusal, BROKEN, FRAME, UNDERPRICED};
 use std::fmt;
+
+/// Every refusal by its number.
+const REFUSALS: [u32; 15] = [1, 2, 3, 4, 5, 6, 7, 8, 9, 10, 11, 12, 13, 14, 15];
 
 /// Counts over a run of seeded inputs.
 #[derive(Clone, Debug, Default, PartialEq, Eq)]
@@ -23,12 +23,8 @@ pub struct Coverage {
     pub accepted: u64,
     /// Accepted certificates whose bound, cost less gap, is above 0.
     pub bounds_above_zero: u64,
-    /// Inputs that met refusal n in some call, at n − 1.
-    pub refusals: [u64; WORDS.len()],
-    /// Inputs whose first broken row was of family f, at f − 1.
-    pub broken: [u64; FAMILY_COUNT],
-    /// Inputs whose first underpriced column was of this table.
-    pub underpriced: [u64; COLUMN_TABLES],
+    /// Each refusal that an input met in some call, once for each input.
+    pub met: Met,
 }
 
 /// Runs the inputs of seeds 0..inputs through all calls and, where they are
@@ -66,26 +62,12 @@ impl Coverage {
         if certified.is_ok_and(|(cost, gap)| cost > gap) {
             self.bounds_above_zero += 1;
         }
-        let numbers: BTreeSet<u32> = refusals.iter().map(|refusal| refusal.number).collect();
-        for number in numbers {
-            self.refusals[number as usize - 1] += 1;
-        }
-        for number in [BROKEN, UNDERPRICED] {
-            if let Some(refusal) = refusals.iter().find(|refusal| refusal.number == number) {
-                self.count_place(case, *refusal);
+        let mut counted = vec![];
+        for refusal in refusals {
+            if !counted.contains(&refusal.number) {
+                counted.push(refusal.number);
+                self.met.count(&case.data, refusal);
             }
-        }
-    }
-
-    fn count_place(&mut self, case: &Case, refusal: Refusal) {
-        let shape = read_shape(&case.data).expect("rows are read after the counts");
-        let place = refusal.place as usize;
-        if refusal.number == BROKEN {
-            let family = RowLayout::new(shape).family(place).expect("a row");
-            self.broken[family - 1] += 1;
-        } else {
-            let (column, _) = ColumnLayout::new(shape).locate(place).expect("a column");
-            self.underpriced[column as usize] += 1;
         }
     }
 
@@ -93,38 +75,20 @@ impl Coverage {
         let Some(text) = text(seed, case) else { return };
         self.texts += 1;
         if let Err(refusal) = program::answer(&text.bytes) {
-            if refusal.number as usize == WORDS.len() {
-                self.refusals[WORDS.len() - 1] += 1;
+            if refusal.number == FRAME {
+                self.met.count(&case.data, refusal);
             }
         }
     }
 
     /// The counts that are 0, in words.
     pub fn missing(&self) -> Vec<String> {
-        let mut missing = vec![];
-        for (count, word) in self.refusals.iter().zip(WORDS) {
-            if *count == 0 {
-                missing.push(format!("refusal {word}"));
-            }
-        }
-        for (count, family) in self.broken.iter().zip(&FAMILIES) {
-            if *count == 0 {
-                missing.push(format!("family {} broken", family.number));
-            }
-        }
-        for (count, entry) in self.underpriced.iter().zip(&COLUMNS) {
-            if *count == 0 {
-                missing.push(format!("{} underpriced", entry.name));
-            }
-        }
-        for (count, word) in [
+        let mut missing = self.met.missing(&REFUSALS);
+        missing.extend(self.met.missing_places(&[BROKEN, UNDERPRICED]));
+        missing.extend(absent(&[
             (self.accepted, "accepted"),
             (self.bounds_above_zero, "bound above 0"),
-        ] {
-            if count == 0 {
-                missing.push(word.to_string());
-            }
-        }
+        ]));
         missing
     }
 }
@@ -145,18 +109,6 @@ impl fmt::Display for Coverage {
         writeln!(f, "inputs {}, texts {}", self.inputs, self.texts)?;
         writeln!(f, "accepted by all calls {}", self.accepted)?;
         writeln!(f, "certificates above 0 {}", self.bounds_above_zero)?;
-        writeln!(f, "refusals met:")?;
-        for (place, (count, word)) in self.refusals.iter().zip(WORDS).enumerate() {
-            writeln!(f, "  {:2} {:28} {:6}", place + 1, word, count)?;
-        }
-        writeln!(f, "first broken row by family:")?;
-        for (count, family) in self.broken.iter().zip(&FAMILIES) {
-            writeln!(f, "  {:2} {:28} {:6}", family.number, family.name, count)?;
-        }
-        writeln!(f, "first underpriced column by table:")?;
-        for (count, entry) in self.underpriced.iter().zip(&COLUMNS) {
-            writeln!(f, "     {:28} {:6}", entry.name, count)?;
-        }
-        Ok(())
+        write!(f, "refusals met:\n{}", self.met.table(&REFUSALS))
     }
 }

@@ -8,18 +8,21 @@
 //!
 //! The law is in `shape`, `data`, `columns`, `rows`, `prices`, `sums`,
 //! `calls`, `program` and `rival`. The inputs for the tests come from
-//! `generator`; `coverage` counts which answers those inputs reach.
+//! `generator`; `coverage` counts which answers those inputs reach,
+//! `rival_count` the rivals that certificates are held to.
 
 pub mod calls;
 pub mod columns;
 pub mod coverage;
 pub mod data;
 pub mod generator;
+pub mod met;
 pub mod model;
 pub mod prices;
 pub mod program;
 pub mod refusal;
 pub mod rival;
+pub mod rival_count;
 pub mod rows;
 pub mod shape;
 pub mod sums;

@@ -22,7 +22,12 @@ pub struct Input {
 
 /// The line the program prints for an input.
 pub fn run(input: &[u8]) -> String {
-    match answer(input) {
+    answer_line(answer(input))
+}
+
+/// The line that tells an answer of certify.
+pub fn answer_line(answer: Result<(u64, u64), Refusal>) -> String {
+    match answer {
         Ok((cost, gap)) => format!("A {cost} {gap}\n"),
         Err(refusal) => format!("R {} {}\n", refusal.number, refusal.place),
     }

@@ -21,13 +21,6 @@ fn sound(seed: u64) -> Case {
     sound_case(shape, seed)
 }
 
-fn draft_of(case: &Case) -> Draft {
-    let shape = read_shape(&case.data).expect("sound data");
-    let mut draft = Draft::empty(shape, case.scale);
-    draft.case = case.clone();
-    draft
-}
-
 fn check_case(case: &Case) -> Result<u64, Refusal> {
     check(&case.data, case.scale, &case.plan)
 }
@@ -141,7 +134,7 @@ fn limits_hold_at_their_value_and_break_one_past_it() {
     let mut tried = [0_u64; 20];
     for seed in 0..SEEDS {
         let case = sound(seed);
-        let draft = draft_of(&case);
+        let draft = Draft::of(case.clone());
         let cost = check_case(&case).expect("a sound plan");
         let rows = RowLayout::new(draft.shape);
         for family in FAMILIES_WITH_LIMIT {
@@ -244,7 +237,7 @@ fn entry_ranges_end_where_the_page_says() {
     let mut tried = vec![0; TABLES.len()];
     for seed in 0..60 {
         let case = sound(seed);
-        let draft = draft_of(&case);
+        let draft = Draft::of(case.clone());
         for (number, entry) in TABLES.iter().enumerate() {
             let size = draft.shape.size(entry.axes);
             let place = random.below(size as u64) as usize;

@@ -4,97 +4,46 @@
 use epm_reference::certify;
 use epm_reference::generator::draft::Case;
 use epm_reference::generator::random::Random;
-use epm_reference::generator::rivals::rival;
 use epm_reference::generator::{optimal, shape, sound_case};
 use epm_reference::model::Model;
 use epm_reference::rival::{evaluate, within_certificate};
+use epm_reference::rival_count::RivalCount;
 use epm_reference::wide::Wide;
 
 const SEEDS: u64 = 250;
 const RIVALS_OF_EACH: u64 = 8;
 
-#[derive(Debug, Default)]
-struct Tally {
-    feasible: u64,
-    infeasible: u64,
-    cheaper_than_the_plan: u64,
-    bounded_above_zero: u64,
-    at_the_bound: u64,
-    wide_entries: u64,
-}
-
-/// N·cost(rival) against M·amount.
-fn compare(rival: Wide, rival_scale: u64, amount: u64, scale: u32) -> std::cmp::Ordering {
-    let left = rival.times(u64::from(scale));
-    left.cmp(&Wide::product(u128::from(amount), u128::from(rival_scale)))
-}
-
-fn try_rivals(random: &mut Random, case: &Case, tally: &mut Tally) {
-    let (cost, gap) =
-        certify(&case.data, case.scale, &case.plan, &case.multipliers).expect("a sound case");
-    for _ in 0..RIVALS_OF_EACH {
-        let rival = rival(random, case);
-        let found = evaluate(&case.data, rival.scale, &rival.entries).expect("sound data");
-        if let Some(row) = found.first_broken {
-            let model = Model::read(&case.data).expect("sound data");
-            assert!(!rival.feasible, "{}: {}", rival.label, model.rows.name(row));
-            tally.infeasible += 1;
-            continue;
-        }
-        assert!(
-            within_certificate(found.cost, rival.scale, (cost, gap), case.scale),
-            "{} rival at scale {} costs {}, certificate {cost} {gap} at {}",
-            rival.label,
-            rival.scale,
-            found.cost,
-            case.scale
-        );
-        tally.feasible += 1;
-        let against_plan = compare(found.cost, rival.scale, cost, case.scale);
-        tally.cheaper_than_the_plan += u64::from(against_plan.is_lt());
-        if cost > gap {
-            tally.bounded_above_zero += 1;
-            let against_bound = compare(found.cost, rival.scale, cost - gap, case.scale);
-            tally.at_the_bound += u64::from(against_bound.is_eq());
-        }
-        let wide = rival
-            .entries
-            .iter()
-            .any(|&entry| entry > u128::from(u32::MAX));
-        tally.wide_entries += u64::from(wide);
+/// Rivals of the cases of all seeds; none is below its certificate.
+fn count_rivals(seed: u64, mut case: impl FnMut(&mut Random, u64) -> Case) -> RivalCount {
+    let mut random = Random::new(seed);
+    let mut count = RivalCount::default();
+    for seed in 0..SEEDS {
+        let case = case(&mut random, seed);
+        let certificate = certify(&case.data, case.scale, &case.plan, &case.multipliers);
+        let certificate = certificate.expect("a sound case");
+        count.try_rivals(&mut random, &case, certificate, RIVALS_OF_EACH);
     }
+    print!("{count}");
+    assert!(count.faults.is_empty(), "{:?}", count.faults);
+    assert!(count.feasible > SEEDS);
+    count
 }
 
 #[test]
 fn no_rival_is_below_a_drawn_certificate() {
-    let mut random = Random::new(31);
-    let mut tally = Tally::default();
-    for seed in 0..SEEDS {
-        let shape = shape(&mut random);
-        let case = sound_case(shape, seed);
-        try_rivals(&mut random, &case, &mut tally);
-    }
-    println!("drawn certificates: {tally:?}");
-    assert!(tally.feasible > SEEDS);
-    assert!(tally.cheaper_than_the_plan > 0);
-    assert!(tally.bounded_above_zero > 0);
-    assert!(tally.wide_entries > 0);
+    let count = count_rivals(31, |random, seed| sound_case(shape(random), seed));
+    assert!(count.cheaper_than_the_plan > 0);
+    assert!(count.bounded_above_zero > 0);
+    assert!(count.wide_entries > 0);
 }
 
 /// With gap 0 the bound is the plan's own cost.
 #[test]
 fn no_rival_is_below_an_optimal_certificate() {
-    let mut random = Random::new(32);
-    let mut tally = Tally::default();
-    for seed in 0..SEEDS {
-        let case = optimal::draft(&mut Random::new(seed)).case;
-        try_rivals(&mut random, &case, &mut tally);
-    }
-    println!("optimal certificates: {tally:?}");
-    assert!(tally.feasible > SEEDS);
-    assert_eq!(tally.cheaper_than_the_plan, 0);
-    assert!(tally.at_the_bound > 0);
-    assert!(tally.infeasible > 0);
+    let count = count_rivals(32, |_, seed| optimal::draft(&mut Random::new(seed)).case);
+    assert_eq!(count.cheaper_than_the_plan, 0);
+    assert!(count.at_the_bound > 0);
+    assert!(count.infeasible > 0);
 }
 
 /// A rival whose balance is off by one Mth of a kW is not feasible.

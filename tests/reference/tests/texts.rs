@@ -6,7 +6,7 @@ use epm_reference::generator::frames::{
 };
 use epm_reference::generator::random::Random;
 use epm_reference::generator::{case, shape, sound_case};
-use epm_reference::program::read_lines;
+use epm_reference::program::{answer_line, read_lines};
 use epm_reference::{certify, run};
 
 fn small_case(seed: u64) -> Case {
@@ -21,10 +21,12 @@ fn small_case(seed: u64) -> Case {
 }
 
 fn line_of(case: &Case) -> String {
-    match certify(&case.data, case.scale, &case.plan, &case.multipliers) {
-        Ok((cost, gap)) => format!("A {cost} {gap}\n"),
-        Err(refusal) => format!("R {} {}\n", refusal.number, refusal.place),
-    }
+    answer_line(certify(
+        &case.data,
+        case.scale,
+        &case.plan,
+        &case.multipliers,
+    ))
 }
 
 /// However the lines are cut and mixed, they join to the case.

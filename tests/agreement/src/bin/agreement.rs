@@ -1,25 +1,16 @@
-//! Prints how many inputs each refusal and each family had, and where the
-//! proved calls and the second implementation differ; exit status 1 where they
-//! do, or where something was not met. The number of seeds may be given.
+//! Prints how many inputs each refusal, each family and each table of columns had,
+//! how many rivals each certificate was held to, and where the proved calls and
+//! the second implementation differ; exit status 1 where they do, or where
+//! something was not met. The number of seeds may be given.
 
-use epm_agreement::measure;
+use epm_agreement::{measure, measure_rivals, seeds, verdict};
 use std::process::ExitCode;
 
-const SEEDS: u64 = 6000;
-
 fn main() -> ExitCode {
-    let seeds = match std::env::args().nth(1) {
-        Some(argument) => argument.parse().expect("a number of seeds"),
-        None => SEEDS,
-    };
+    let seeds = seeds(6000);
     let agreement = measure(seeds);
     print!("{agreement}");
-    let failures = agreement.failures();
-    for failure in &failures {
-        println!("FAILED: {failure}");
-    }
-    match failures.is_empty() {
-        true => ExitCode::SUCCESS,
-        false => ExitCode::FAILURE,
-    }
+    let rivals = measure_rivals(seeds / 12);
+    print!("{rivals}");
+    verdict([agreement.failures(), rivals.failures()].concat())
 }

@@ -837,10 +837,11 @@ fn lower_price(random: &mut Random, draft: &mut Draft, column: Column) -> Option
         Column::SpinShort => (Table::SresVoll, draft.multiplier(3, &[y, z, s]), hours),
         _ => (Table::ResVoll, draft.multiplier(4, &[y, z]), weight),
     };
-    if asked <= 0 {
+    if asked <= 0 || unit == 0 {
         return None;
     }
-    draft.set_data(table, &[], (asked - 1) / unit);
+    let price = u32::try_from((asked - 1) / unit).ok()?;
+    draft.set_data(table, &[], i128::from(price));
     Some(underpriced_table(column))
 }
 

@@ -2,7 +2,7 @@
 
 use super::random::Random;
 use crate::columns::{Column, ColumnLayout};
-use crate::data::{DataLayout, Table};
+use crate::data::{read_shape, DataLayout, Table};
 use crate::rows::RowLayout;
 use crate::shape::Shape;
 
@@ -53,6 +53,15 @@ impl Draft {
             layout,
             columns,
             rows,
+        }
+    }
+
+    /// A case whose data have the length that their counts give.
+    pub fn of(case: Case) -> Draft {
+        let shape = read_shape(&case.data).expect("counts in range");
+        Draft {
+            case,
+            ..Draft::empty(shape, 1)
         }
     }
 

@@ -52,6 +52,8 @@ pub fn all() -> Vec<Extreme> {
         accepted("gap at the limit", wide_gap(0), limit, 2 * limit),
         refused("gap past its positive limit", wide_gap(1), 13, 0),
         refused("gap past its negative limit", deep_gap(), 13, 0),
+        accepted("netted constant of (19)", netted_reserve(), 0, 1000 << 30),
+        accepted("netted constant of (21)", netted_firm(), 0, 1000 << 30),
     ]
 }
 
@@ -210,5 +212,34 @@ fn deep_gap() -> Draft {
     draft.set_entry(Column::FirmShort, &[0, 0], 3_145_272);
     draft.set_multiplier(4, &[0, 0], largest);
     draft.set_multiplier(12, &[0, 0], -largest);
+    draft
+}
+
+/// A link of 2^31 MW into zone 0, whose plants all stand in zone 1, and prices of
+/// 2^30 for what is short there.
+fn linked_zone() -> Draft {
+    let mut draft = idle_plant(2, 1);
+    draft.set_data(Table::Duration, &[0], 1);
+    draft.set_data(Table::Zone, &[0], 1);
+    draft.set_data(Table::Tl, &[0, 1, 0, 0], POWER);
+    draft.set_data(Table::SresVoll, &[], 1 << 30);
+    draft.set_data(Table::ResVoll, &[], 1 << 30);
+    draft
+}
+
+/// 1000·(TL − SRes) is 1000, and at 2^30 times that the gap is on scale; either
+/// part alone would not be.
+fn netted_reserve() -> Draft {
+    let mut draft = linked_zone();
+    draft.set_data(Table::SRes, &[0, 0], POWER - 1);
+    draft.set_multiplier(3, &[0, 0, 0], 1 << 30);
+    draft
+}
+
+/// The same of 1000·TL − 1000·peak; EE is 0, so nothing has to be generated.
+fn netted_firm() -> Draft {
+    let mut draft = linked_zone();
+    draft.set_data(Table::Demand, &[0, 0, 0], POWER - 1);
+    draft.set_multiplier(4, &[0, 0], 1 << 30);
     draft
 }

@@ -26,33 +26,55 @@ pub fn fits(case: &Case) -> bool {
 /// The case as lines of varying length, the words mixed. A scale of 1 is left
 /// out half of the time.
 pub fn sound_lines(random: &mut Random, case: &Case) -> Vec<Vec<u8>> {
-    let data = split(random, "DATA", case.data.iter().map(word_of));
-    let plan = split(random, "PLAN", case.plan.iter().map(word_of));
-    let duals = case.multipliers.iter().map(|m| format!("{m:016X}"));
-    let dual = split(random, "DUAL", duals);
+    let [data, plan, duals] = digits(case);
+    let data = split(random, "DATA", &data);
+    let plan = split(random, "PLAN", &plan);
+    let dual = split(random, "DUAL", &duals);
     let mut scale = vec![];
     if case.scale != 1 || random.chance(1, 2) {
-        scale.push(format!("SCAL {:08X}", case.scale).into_bytes());
+        scale.push(scale_line(case));
     }
     mix(random, vec![data, plan, dual, scale])
 }
 
-fn word_of(number: &u32) -> String {
-    format!("{number:08X}")
+/// The case as lines of `most` numbers, the last of each word with what is left:
+/// DATA, PLAN, SCAL, DUAL. A scale of 1 is left out.
+pub fn plain_lines(case: &Case, most: usize) -> Vec<Vec<u8>> {
+    let [data, plan, duals] = digits(case);
+    let mut lines = cut("DATA", &data, || most);
+    lines.extend(cut("PLAN", &plan, || most));
+    if case.scale != 1 {
+        lines.push(scale_line(case));
+    }
+    lines.extend(cut("DUAL", &duals, || most));
+    lines
 }
 
-/// Lines of 1..64 numbers.
-fn split(random: &mut Random, word: &str, numbers: impl Iterator<Item = String>) -> Vec<Vec<u8>> {
-    let numbers: Vec<String> = numbers.collect();
-    let full = random.chance(1, 3);
+/// The numbers of DATA, PLAN and DUAL in their digits.
+fn digits(case: &Case) -> [Vec<String>; 3] {
+    let words = |list: &[u32]| list.iter().map(|number| format!("{number:08X}")).collect();
+    let duals = case.multipliers.iter().map(|m| format!("{m:016X}"));
+    [words(&case.data), words(&case.plan), duals.collect()]
+}
+
+fn scale_line(case: &Case) -> Vec<u8> {
+    format!("SCAL {:08X}", case.scale).into_bytes()
+}
+
+/// Lines of 64 numbers, or of 1..64.
+fn split(random: &mut Random, word: &str, numbers: &[String]) -> Vec<Vec<u8>> {
+    match random.chance(1, 3) {
+        true => cut(word, numbers, || 64),
+        false => cut(word, numbers, || random.between(1, 64) as usize),
+    }
+}
+
+/// Lines of as many numbers as `count` says for each.
+fn cut(word: &str, numbers: &[String], mut count: impl FnMut() -> usize) -> Vec<Vec<u8>> {
     let mut lines = vec![];
-    let mut rest = &numbers[..];
+    let mut rest = numbers;
     while !rest.is_empty() {
-        let count = match full {
-            true => 64,
-            false => random.between(1, 64) as usize,
-        };
-        let (line, later) = rest.split_at(count.min(rest.len()));
+        let (line, later) = rest.split_at(count().min(rest.len()));
         lines.push(format!("{word} {}", line.join(" ")).into_bytes());
         rest = later;
     }
@@ -207,7 +229,8 @@ fn text(chosen: LineDamage, bytes: Vec<u8>, line: usize) -> Text {
     }
 }
 
-fn line_of(word: &str, digits: usize, numbers: usize) -> Vec<u8> {
+/// A line of as many numbers, each 0.
+pub fn line_of(word: &str, digits: usize, numbers: usize) -> Vec<u8> {
     let mut line = word.to_string();
     for _ in 0..numbers {
         line.push(' ');

@@ -6,20 +6,31 @@
 //! - `optimal` makes plans in merit order with multipliers of gap 0;
 //! - `damage` changes a sound case so that a chosen refusal is met;
 //! - `extremes` are fixed cases at and just past 2^62 − 1;
-//! - `frames` writes a case as the program's text, sound and damaged;
+//! - `anything` makes lists of any length and content;
+//! - `frames` writes a case as the program's text, sound and damaged; `bytes`
+//!   changes a text byte by byte, `large` makes texts as large as any that can be
+//!   accepted, and larger;
+//! - `stations` are the ten cases of document 01's one-plant station;
 //! - `rivals` makes other feasible plans over the same data.
 
+pub mod anything;
+pub mod bytes;
 pub mod damage;
 pub mod draft;
 pub mod extremes;
 pub mod frames;
+pub mod large;
 pub mod multipliers;
 pub mod needed;
 pub mod optimal;
 pub mod random;
 pub mod rivals;
 pub mod sound;
+pub mod stations;
 
+use crate::calls::LARGEST_MULTIPLIER;
+use crate::columns::COLUMNS;
+use crate::rows::FAMILIES;
 use crate::shape::Shape;
 use damage::{damage, Damage, Expected};
 use draft::{Case, Draft};
@@ -108,4 +119,57 @@ pub fn damaged_case(random: &mut Random, chosen: Damage) -> Generated {
             };
         }
     }
+}
+
+/// A case with two faults, to tell which is met first: one that certify alone
+/// tests, then any.
+pub fn twice_damaged_case(random: &mut Random) -> Case {
+    let all = Damage::all();
+    loop {
+        let late = [
+            Damage::MultiplierRange,
+            Damage::ColumnOffScale,
+            Damage::Underpriced(random.pick(&COLUMNS).column),
+            Damage::GapOffScale,
+            Damage::AnyMultiplier,
+        ];
+        let (first, second) = (*random.pick(&late), *random.pick(&all));
+        let once = damaged_case(random, first).case;
+        if let Some((case, _)) = damage(random, Draft::of(once), second) {
+            return case;
+        }
+    }
+}
+
+/// Both sides of the ends of every range of multipliers.
+const MULTIPLIER_EDGES: [i64; 9] = [
+    i64::MIN,
+    -LARGEST_MULTIPLIER - 1,
+    -LARGEST_MULTIPLIER,
+    -1,
+    0,
+    1,
+    LARGEST_MULTIPLIER,
+    LARGEST_MULTIPLIER + 1,
+    i64::MAX,
+];
+
+/// A sound case with one multiplier of each family in turn at each of the edges.
+pub fn multiplier_edges(seed: u64) -> Vec<Case> {
+    let mut random = Random::new(seed);
+    let shape = shape(&mut random);
+    let sound = sound_draft(&mut random, shape);
+    let mut cases = vec![];
+    for family in &FAMILIES {
+        let place = random.below(shape.size(family.axes) as u64) as usize;
+        let row = sound
+            .rows
+            .index(family.number, &shape.indices(family.axes, place));
+        for edge in MULTIPLIER_EDGES {
+            let mut case = sound.case.clone();
+            case.multipliers[row] = edge;
+            cases.push(case);
+        }
+    }
+    cases
 }

@@ -1,8 +1,8 @@
 //! Rival plans of demand 3: other plans over the same data that meet all the
 //! equations, at other scales, with entries that may be wide.
 //!
-//! Each is made from the sound plan by shares that no limit of families 5 to 20
-//! forbids:
+//! One kind owes nothing to the sound plan. The others are made from it by shares
+//! that no limit of families 5 to 20 forbids:
 //!
 //! - a candidate may be built to a share of the plan, with its output and
 //!   reserve; an existing plant may keep a share of its capacity after the
@@ -12,8 +12,9 @@
 //! - unmet, surplus, spinshort and firmshort then take up the difference.
 
 use super::draft::{Case, Draft};
+use super::needed;
 use super::random::Random;
-use crate::columns::Column;
+use crate::columns::{Column, ColumnLayout};
 use crate::data::{read_shape, Table};
 
 /// A rival plan in Mths.
@@ -31,10 +32,11 @@ const PARTS: i128 = 16;
 
 /// A rival of a case that check accepts.
 pub fn rival(random: &mut Random, case: &Case) -> Rival {
-    match random.below(8) {
+    match random.below(10) {
         0 => rescaled(random, case),
         1 => with_waste(random, case),
         2 | 3 => swapped(random, case),
+        4 | 5 => idle(random, case),
         _ => reshaped(random, case),
     }
 }
@@ -58,9 +60,8 @@ fn rescaled(random: &mut Random, case: &Case) -> Rival {
 /// slices. Ramps, fuel and emissions may forbid it.
 fn swapped(random: &mut Random, case: &Case) -> Rival {
     let mut rival = rescaled(random, case);
-    let shape = read_shape(&case.data).expect("sound data");
-    let mut source = Draft::empty(shape, case.scale);
-    source.case = case.clone();
+    let source = Draft::of(case.clone());
+    let shape = source.shape;
     let factor = (rival.scale / u64::from(case.scale)) as i128;
     for _ in 0..1 + random.below(4) {
         let y = random.below(shape.years as u64) as usize;
@@ -85,7 +86,7 @@ fn swapped(random: &mut Random, case: &Case) -> Rival {
 fn with_waste(random: &mut Random, case: &Case) -> Rival {
     let mut rival = rescaled(random, case);
     let shape = read_shape(&case.data).expect("sound data");
-    let columns = Draft::empty(shape, 1).columns;
+    let columns = ColumnLayout::new(shape);
     for y in 0..shape.years {
         for z in 0..shape.zones {
             for s in 0..shape.slices() {
@@ -106,12 +107,22 @@ fn with_waste(random: &mut Random, case: &Case) -> Rival {
 /// The rival under construction: wide entries over the case's data.
 struct Build {
     source: Draft,
-    /// M over N.
-    factor: i128,
+    /// M.
+    scale: i128,
     entries: Vec<i128>,
 }
 
 impl Build {
+    fn new(case: &Case, scale: i128) -> Build {
+        let source = Draft::of(case.clone());
+        let entries = vec![0; source.columns.count()];
+        Build {
+            source,
+            scale,
+            entries,
+        }
+    }
+
     fn entry(&self, column: Column, indices: &[usize]) -> i128 {
         self.entries[self.source.columns.index(column, indices)]
     }
@@ -120,14 +131,30 @@ impl Build {
         self.entries[self.source.columns.index(column, indices)] = value;
     }
 
-    /// An entry of the sound plan in Mths.
+    /// An entry of the sound plan in Mths, where M is a multiple of N.
     fn planned(&self, column: Column, indices: &[usize]) -> i128 {
-        self.source.entry(column, indices) * self.factor
+        self.source.entry(column, indices) * (self.scale / self.source.scale())
     }
 
-    /// M.
-    fn scale(&self) -> i128 {
-        self.source.scale() * self.factor
+    /// Unmet, surplus, spinshort and firmshort as the other entries need them.
+    fn make_up(mut self, random: &mut Random, label: &'static str, feasible: bool) -> Rival {
+        let shape = self.source.shape;
+        for y in 0..shape.years {
+            for z in 0..shape.zones {
+                for s in 0..shape.slices() {
+                    balance(random, &mut self, y, z, s);
+                    cover_spinning_reserve(random, &mut self, y, z, s);
+                }
+                cover_firm_capacity(random, &mut self, y, z);
+            }
+        }
+        let entry = |&entry: &i128| u128::try_from(entry).expect("an entry not below 0");
+        Rival {
+            label,
+            scale: self.scale as u64,
+            entries: self.entries.iter().map(entry).collect(),
+            feasible,
+        }
     }
 }
 
@@ -140,40 +167,39 @@ fn share(random: &mut Random) -> i128 {
 }
 
 fn reshaped(random: &mut Random, case: &Case) -> Rival {
-    let shape = read_shape(&case.data).expect("sound data");
-    let mut source = Draft::empty(shape, case.scale);
-    source.case = case.clone();
     // Divisible by what shares of shares and minimum loads need.
     let factor = 1000 * PARTS * PARTS * (1 + random.magnitude(1 << 24));
-    let entries = vec![0; source.columns.count()];
-    let mut build = Build {
-        source,
-        factor,
-        entries,
-    };
-    for g in 0..shape.plants {
+    let mut build = Build::new(case, i128::from(case.scale) * factor);
+    for g in 0..build.source.shape.plants {
         reshape_plant(random, &mut build, g);
     }
     reshape_transfers(random, &mut build);
-    for y in 0..shape.years {
-        for z in 0..shape.zones {
-            for s in 0..shape.slices() {
-                balance(random, &mut build, y, z, s);
-                cover_spinning_reserve(random, &mut build, y, z, s);
-            }
-            cover_firm_capacity(random, &mut build, y, z);
+    build.make_up(random, "reshaped", true)
+}
+
+/// A plan that owes nothing to the case's own, at any scale: no builds and no
+/// transfers, existing plants retire in the second year and give the least that
+/// their minimum load asks. Availability, profiles, fuel and emissions may forbid
+/// even that.
+fn idle(random: &mut Random, case: &Case) -> Rival {
+    let scale = 1 + random.magnitude(1 << 40);
+    let mut build = Build::new(case, scale);
+    let shape = build.source.shape;
+    for g in 0..shape.plants {
+        if build.source.is_candidate(g) {
+            continue;
+        }
+        let cap = scale * build.source.data(Table::GenCap, &[g]);
+        build.set(Column::Cap, &[0, g], cap);
+        for s in 0..shape.slices() {
+            let gen = least_output(&build, 0, g, s, cap);
+            build.set(Column::Gen, &[0, g, s], gen);
+        }
+        if shape.years > 1 {
+            build.set(Column::Retire, &[1, g], cap);
         }
     }
-    Rival {
-        label: "reshaped",
-        scale: build.scale() as u64,
-        entries: build
-            .entries
-            .iter()
-            .map(|&entry| u128::try_from(entry).expect("an entry not below 0"))
-            .collect(),
-        feasible: true,
-    }
+    build.make_up(random, "idle", false)
 }
 
 fn reshape_plant(random: &mut Random, build: &mut Build, g: usize) {
@@ -207,7 +233,7 @@ fn reshape_plant(random: &mut Random, build: &mut Build, g: usize) {
 fn least_output(build: &Build, y: usize, g: usize, s: usize, cap: i128) -> i128 {
     debug_assert_eq!(build.entry(Column::Cap, &[y, g]), cap);
     match build.source.is_minimum_load_day(s) {
-        true => build.source.data(Table::MinCapFac, &[g]) * cap / 1000,
+        true => needed::quotient_up(build.source.data(Table::MinCapFac, &[g]) * cap, 1000),
         false => 0,
     }
 }
@@ -239,7 +265,7 @@ fn extra(random: &mut Random) -> i128 {
 fn balance(random: &mut Random, build: &mut Build, y: usize, z: usize, s: usize) {
     let source = &build.source;
     let ee = source.data(Table::Ee, &[y, z]);
-    let mut short = build.scale() * source.data(Table::Demand, &[y, z, s]) * ee;
+    let mut short = build.scale * source.data(Table::Demand, &[y, z, s]) * ee;
     for g in source.plants_in(z) {
         short -= 1000 * build.entry(Column::Gen, &[y, g, s]);
     }
@@ -257,7 +283,7 @@ fn balance(random: &mut Random, build: &mut Build, y: usize, z: usize, s: usize)
 fn cover_spinning_reserve(random: &mut Random, build: &mut Build, y: usize, z: usize, s: usize) {
     let source = &build.source;
     let q = source.shape.season_of(s);
-    let mut short = 1000 * build.scale() * source.data(Table::SRes, &[y, z]);
+    let mut short = 1000 * build.scale * source.data(Table::SRes, &[y, z]);
     for g in source.plants_in(z) {
         short -= 1000 * build.entry(Column::Reserve, &[y, g, s]);
         if source.is_vre(g) {
@@ -266,7 +292,7 @@ fn cover_spinning_reserve(random: &mut Random, build: &mut Build, y: usize, z: u
         }
     }
     for z2 in source.zones_beside(z) {
-        let limit = build.scale() * source.data(Table::Tl, &[y, z2, z, q]);
+        let limit = build.scale * source.data(Table::Tl, &[y, z2, z, q]);
         short -= 1000 * (limit - build.entry(Column::Trans, &[y, z2, z, s]));
     }
     let spinshort = short.max(0) + extra(random);
@@ -277,14 +303,14 @@ fn cover_spinning_reserve(random: &mut Random, build: &mut Build, y: usize, z: u
 fn cover_firm_capacity(random: &mut Random, build: &mut Build, y: usize, z: usize) {
     let source = &build.source;
     let margin = 1000 + source.data(Table::Prm, &[z]);
-    let mut short = margin * build.scale() * super::needed::peak(source, y, z);
+    let mut short = margin * build.scale * needed::peak(source, y, z);
     for g in source.plants_in(z) {
         let credit = source.data(Table::CapCredit, &[g]);
         short -= credit * build.entry(Column::Cap, &[y, g]);
     }
     for z2 in source.zones_beside(z) {
         for q in 0..source.shape.seasons {
-            short -= 1000 * build.scale() * source.data(Table::Tl, &[y, z2, z, q]);
+            short -= 1000 * build.scale * source.data(Table::Tl, &[y, z2, z, q]);
         }
     }
     let firmshort = short.max(0) + extra(random);

@@ -1,6 +1,7 @@
 use mathlib.Core.Path.{refl, _∙_}
+use Rattle.constants.proofs.Laws.{flag-on, flag-off}
 use Rattle.rows.specs.Ready.{sidesOf}
-use Rattle.rows.proofs.Laws.{plain, no-terms, product-is, flag-on, flag-off}
+use Rattle.rows.proofs.Laws.{plain, no-terms, product-is}
 use borrow.Author.Needs.{needs}
 use Rattle.rows.proofs.dispatch.minimum_load.Statement.{statement}
 use Rattle.rows.proofs.dispatch.minimum_load.Tie as tie

@@ -1,7 +1,8 @@
 use mathlib.Core.Path.{refl}
+use Rattle.constants.proofs.Laws.{flag-on, flag-off}
 use Rattle.rows.specs.Ready.{sidesOf}
 use lib.Dec.{eqb}
-use Rattle.rows.proofs.Laws.{plain, product-is, nothing-plus, plus-if-is, flag-on, flag-off}
+use Rattle.rows.proofs.Laws.{plain, product-is, nothing-plus, plus-if-is}
 use borrow.Author.Needs.{needs}
 use Rattle.rows.proofs.fleet.fixed.Statement.{statement}
 use Rattle.rows.proofs.fleet.fixed.Tie as tie

@@ -3,8 +3,10 @@ use mathlib.Core.Bool.{true, false}
 use native.Mathlib.Omega.{arith}
 use lib.Dec.{eqb, ltb}
 use borrow.Author.Tests.{lt-ltb, le-ltb, eq-eqb, ne-eqb}
+use Rattle.constants.proofs.Laws.{flag-on, flag-off}
+use Rattle.constants.specs.Constants.{constantOf}
 use Rattle.rows.specs.Ready.{sidesOf}
-use Rattle.rows.proofs.Laws.{plain, constant, product-is, plus-is, plus-nothing, flag-on, flag-off}
+use Rattle.rows.proofs.Laws.{plain, constant, product-is, plus-is, plus-nothing}
 use borrow.Author.Needs.{needs}
 use Rattle.rows.proofs.fleet.stock.Statement.{statement}
 use Rattle.rows.proofs.fleet.stock.Tie as tie
@@ -35,23 +37,24 @@ returns c =
     (plain _ _ _ (plus-nothing _ (product-is (c4 .before .product .ensures) refl (c4 .before .before .planned-by-year-plant .ensures .0)))
     (plus-is _ (c .add-product .ensures) (c4 .earlier-cap .ensures) refl (c .before .planned-by-year-plant2 .ensures .0)))
 
-by-plant-requires-2 : tie.Need-by-plant-requires-2
-by-plant-requires-2 c κs = search needs
+stock-constant-requires : tie.Need-stock-constant-requires
+stock-constant-requires c κs = search needs
 
 with-constant-requires : tie.Need-with-constant-requires
 with-constant-requires c κs = search needs
 
 returns-2 : tie.Need-returns-2
-unfolding sidesOf
+unfolding sidesOf constantOf
 returns-2 c =
     let c4 = c .before .before .before .before in
     let c8 = c4 .before .before .before .before in
     let c12 = c8 .before .before .before .before in
     let y = c12 .args .y in
+    let f = flag-on 0 (c4 .by-plant .ensures .0) (c .before .before .before .if1 .left) in
     let e : eqb y 0 ≡ true = eq-eqb y 0 (c .before .before .if2 .taken) in
     let l : ltb 0 y ≡ false = le-ltb 0 y (omega (arith, c .before .before .if2 .taken)) in
-    rw (flag-on 0 (c4 .by-plant .ensures .0) (c .before .before .before .if1 .left), e, l)
-    (constant _ _ _ (c .with-constant .ensures) refl (c .before .by-plant2 .ensures .0)
+    rw (f, e, l)
+    (constant _ _ _ (c .with-constant .ensures) (rw (f, e) at (c .before .stock-constant .ensures))
     (plus-nothing _ (product-is (c4 .before .before .product .ensures) refl (c4 .before .before .before .planned-by-year-plant .ensures .0))) (c4 .before .earlier-cap .ensures ∙ rw l))
 
 planned-by-year-plant-requires-3 : tie.Need-planned-by-year-plant-requires-3
@@ -85,7 +88,7 @@ stock-spec =
     planned-by-year-plant-requires-2
     add-product-requires
     returns
-    by-plant-requires-2
+    stock-constant-requires
     with-constant-requires
     returns-2
     planned-by-year-plant-requires-3

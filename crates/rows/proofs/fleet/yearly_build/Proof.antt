@@ -1,7 +1,8 @@
 use mathlib.Core.Path.{refl}
-use Rattle.tables.proofs.Laws.{small}
+use Rattle.constants.proofs.Laws.{flag-on, flag-off}
+use Rattle.constants.specs.Constants.{constantOf}
 use Rattle.rows.specs.Ready.{sidesOf}
-use Rattle.rows.proofs.Laws.{constant, no-terms, product-is, times-is, flag-on, flag-off}
+use Rattle.rows.proofs.Laws.{constant, no-terms, product-is}
 use borrow.Author.Needs.{needs}
 use Rattle.rows.proofs.fleet.yearly_build.Statement.{statement}
 use Rattle.rows.proofs.fleet.yearly_build.Tie as tie
@@ -16,15 +17,6 @@ returns : tie.Need-returns
 unfolding sidesOf
 returns c = rw (flag-on 0 (c .before .before .by-plant .ensures .0) (c .before .if1 .taken)) (no-terms _ (c .empty .ensures))
 
-by-year-requires : tie.Need-by-year-requires
-by-year-requires c κs = search needs
-
-by-year-requires-2 : tie.Need-by-year-requires-2
-by-year-requires-2 c κs = search needs
-
-mul-limit : tie.Need-mul-limit
-mul-limit c = small 0xffff_ffff 0xffff_ffff tt (c .before .by-year .ensures .1) (c .by-year2 .ensures .1)
-
 zero-requires : tie.Need-zero-requires
 zero-requires c κs = search needs
 
@@ -34,16 +26,20 @@ planned-by-year-plant-requires c κs = search needs
 product-requires : tie.Need-product-requires
 product-requires c κs = search needs
 
+yearly-build-constant-requires : tie.Need-yearly-build-constant-requires
+yearly-build-constant-requires c κs = search needs
+
 with-constant-requires : tie.Need-with-constant-requires
 with-constant-requires c κs = search needs
 
 returns-2 : tie.Need-returns-2
-unfolding sidesOf
+unfolding sidesOf constantOf
 returns-2 c =
     let c4 = c .before .before .before .before in
-    rw (flag-off 0 (c4 .before .before .before .by-plant .ensures .0) (c4 .before .before .if1 .left))
-    (constant _ _ _ (c .with-constant .ensures) (times-is (c4 .before .by-year .ensures .0) (c4 .by-year2 .ensures .0)) refl
-    (c .before .before .before .zero .ensures) (product-is (c .before .product .ensures) refl (c .before .before .planned-by-year-plant .ensures .0)))
+    let f = flag-off 0 (c4 .before .before .by-plant .ensures .0) (c4 .before .if1 .left) in
+    rw f
+    (constant _ _ _ (c .with-constant .ensures) (rw f at (c .before .yearly-build-constant .ensures))
+    (c4 .zero .ensures) (product-is (c .before .before .product .ensures) refl (c .before .before .before .planned-by-year-plant .ensures .0)))
 
 pub yearly-build-spec : {M : Type 1} → statement M
 yearly-build-spec =
@@ -52,11 +48,9 @@ yearly-build-spec =
     by-plant-requires
     empty-requires
     returns
-    by-year-requires
-    by-year-requires-2
-    mul-limit
     zero-requires
     planned-by-year-plant-requires
     product-requires
+    yearly-build-constant-requires
     with-constant-requires
     returns-2)

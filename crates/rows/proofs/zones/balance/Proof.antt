@@ -4,9 +4,9 @@ use native.Mathlib.Omega.{arith}
 use lib.Dec.{eqb}
 use Rattle.sums.specs.Sum.{on}
 use Rattle.model.specs.Data.{read, zone}
-use Rattle.tables.proofs.Laws.{small}
+use Rattle.constants.specs.Constants.{constantOf}
 use Rattle.rows.specs.Ready.{sidesOf}
-use Rattle.rows.proofs.Laws.{constant, plus-is, join-is, times-is, part-sum, zone-slice, year-zone}
+use Rattle.rows.proofs.Laws.{constant, plus-is, join-is, part-sum, zone-slice}
 use borrow.Author.Needs.{needs}
 use Rattle.rows.proofs.zones.balance.Statement.{statement}
 use Rattle.rows.proofs.zones.balance.Tie as tie
@@ -46,36 +46,25 @@ planned-by-zone-slice-requires-2 c κs =
 add-product-requires-2 : tie.Need-add-product-requires-2
 add-product-requires-2 c κs = search needs
 
-by-year-zone-slice-requires : tie.Need-by-year-zone-slice-requires
-by-year-zone-slice-requires c κs =
-    let p = c .before .before .before .before .before .before .before .before .before .before .before .before .before .pre in
-    record { laid = p .0 .laid; table = omega arith; set = refl; inside = zone-slice (p .1 .0) (p .1 .1 .0) (p .1 .1 .1) }
-
-by-year-zone-requires : tie.Need-by-year-zone-requires
-by-year-zone-requires c κs =
-    let p = c .before .before .before .before .before .before .before .before .before .before .before .before .before .before .pre in
-    record { laid = p .0 .laid; table = omega arith; set = refl; inside = year-zone (p .1 .0) (p .1 .1 .0) }
-
-mul-demand : tie.Need-mul-demand
-mul-demand c = small 0xffff_ffff 0xffff_ffff tt (c .before .by-year-zone-slice .ensures .1) (c .by-year-zone .ensures .1)
+balance-constant-requires : tie.Need-balance-constant-requires
+balance-constant-requires c κs = let p = c .before .before .before .before .before .before .before .before .before .before .before .before .before .pre in (p .0 .laid, (p .0 .sound, p .1))
 
 with-constant-requires : tie.Need-with-constant-requires
 with-constant-requires c κs = search needs
 
 returns : tie.Need-returns
-unfolding sidesOf
+unfolding sidesOf constantOf
 returns c =
     let c4 = c .before .before .before .before in
     let c8 = c4 .before .before .before .before in
     let c12 = c8 .before .before .before .before in
-    let c16 = c12 .before .before .before .before in
-    let p = c16 .pre in
-    let D = read (c16 .args .«data» .now) in
-    let made = part-sum (p .0 .outputs) (p .1 .1 .1) (λ z g v. on (eqb (zone D g) z) (1000 * v)) (c8 .before .before .zone-sum .ensures) (c8 .before .before .before .long .ensures) in
+    let p = c12 .before .before .before .pre in
+    let D = read (c12 .before .before .before .args .«data» .now) in
+    let made = part-sum (p .0 .outputs) (p .1 .1 .1) (λ z g v. on (eqb (zone D g) z) (1000 * v)) (c8 .before .zone-sum .ensures) (c8 .before .before .long .ensures) in
     rw (p .0 .laid .counts)
-    (constant _ _ _ (c .with-constant .ensures) refl (times-is (c .before .before .by-year-zone-slice .ensures .0) (c .before .by-year-zone .ensures .0))
-    (plus-is _ (c4 .before .before .add-product .ensures) (join-is _ _ (c8 .join .ensures) made (c8 .before .received .ensures)) refl (c4 .before .before .before .planned-by-zone-slice .ensures .0))
-    (plus-is _ (c .before .before .before .add-product2 .ensures) (c4 .before .sent .ensures) refl (c4 .planned-by-zone-slice2 .ensures .0)))
+    (constant _ _ _ (c .with-constant .ensures) (c .before .balance-constant .ensures)
+    (plus-is _ (c4 .before .add-product .ensures) (join-is _ _ (c4 .before .before .before .join .ensures) made (c8 .received .ensures)) refl (c4 .before .before .planned-by-zone-slice .ensures .0))
+    (plus-is _ (c .before .before .add-product2 .ensures) (c4 .sent .ensures) refl (c .before .before .before .planned-by-zone-slice2 .ensures .0)))
 
 pub balance-spec : {M : Type 1} → statement M
 balance-spec =
@@ -90,8 +79,6 @@ balance-spec =
     sent-requires
     planned-by-zone-slice-requires-2
     add-product-requires-2
-    by-year-zone-slice-requires
-    by-year-zone-requires
-    mul-demand
+    balance-constant-requires
     with-constant-requires
     returns)

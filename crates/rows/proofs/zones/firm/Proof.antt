@@ -1,9 +1,7 @@
-use mathlib.Core.Path.{refl, ap, _∙_}
-use Prim.Native.Nat.{ℕ, _+_, _≤_}
-use native.Mathlib.Omega.{arith}
-use Rattle.tables.proofs.Laws.{small}
+use mathlib.Core.Path.{refl, _∙_}
+use Rattle.constants.specs.Constants.{constantOf}
 use Rattle.rows.specs.Ready.{sidesOf}
-use Rattle.rows.proofs.Laws.{constant, plus-is, times-is, few-prm}
+use Rattle.rows.proofs.Laws.{constant, plus-is}
 use borrow.Author.Needs.{needs}
 use Rattle.rows.proofs.zones.firm.Statement.{statement}
 use Rattle.rows.proofs.zones.firm.Tie as tie
@@ -20,47 +18,23 @@ planned-by-year-zone-requires c κs = search needs
 add-product-requires : tie.Need-add-product-requires
 add-product-requires c κs = search needs
 
-limits-into-all-seasons-requires : tie.Need-limits-into-all-seasons-requires
-limits-into-all-seasons-requires c κs = search needs
-
-mul-links : tie.Need-mul-links
-mul-links c = search needs
-
-by-zone-requires : tie.Need-by-zone-requires
-by-zone-requires c κs = search needs
-
-add-asked : tie.Need-add-asked
-add-asked c = search needs
-
-zone-peak-requires : tie.Need-zone-peak-requires
-zone-peak-requires c κs = search needs
-
-mul-asked : tie.Need-mul-asked
-mul-asked c =
-    let c4 = c .before .before .before .before in
-    let c8 = c4 .before .before .before .before in
-    let p = c8 .before .before .before .pre in
-    let h : c .before .by-zone .result ≤ 1000 = omega (arith, c .before .by-zone .ensures .0, few-prm (p .0 .laid) (p .0 .sound) (p .1 .1)) in
-    small 2000 0xffff_ffff tt (omega arith) (c .zone-peak .ensures .1)
-
 zero-requires : tie.Need-zero-requires
 zero-requires c κs = search needs
+
+firm-constant-requires : tie.Need-firm-constant-requires
+firm-constant-requires c κs = search needs
 
 with-constant-requires : tie.Need-with-constant-requires
 with-constant-requires c κs = search needs
 
 returns : tie.Need-returns
-unfolding sidesOf
+unfolding sidesOf constantOf
 returns c =
     let c4 = c .before .before .before .before in
-    let c8 = c4 .before .before .before .before in
-    let c12 = c8 .before .before .before .before in
-    let p = c12 .before .pre in
-    let n = p .0 .laid .counts in
+    let n = c4 .before .before .before .before .before .before .before .pre .0 .laid .counts in
     rw n
-    (constant _ _ _ (c .with-constant .ensures) (times-is refl (c4 .limits-into-all-seasons .ensures .0))
-    (times-is (ap (λ (v : ℕ). 1000 + v) (c .before .before .before .by-zone .ensures .0)) (c .before .before .zone-peak .ensures .0 ∙ rw n))
-    (plus-is _ (c4 .before .add-product .ensures) (c4 .before .before .before .credit-sum .ensures ∙ rw (c8 .long .ensures)) refl (c4 .before .before .planned-by-year-zone .ensures .0)) (c .before .zero .ensures))
+    (constant _ _ _ (c .with-constant .ensures) (rw n at (c .before .firm-constant .ensures))
+    (plus-is _ (c .before .before .before .add-product .ensures) (c4 .before .credit-sum .ensures ∙ rw (c4 .before .before .long .ensures)) refl (c4 .planned-by-year-zone .ensures .0)) (c .before .before .zero .ensures))
 
 pub firm-spec : {M : Type 1} → statement M
 firm-spec =
@@ -70,12 +44,7 @@ firm-spec =
     credit-sum-requires
     planned-by-year-zone-requires
     add-product-requires
-    limits-into-all-seasons-requires
-    mul-links
-    by-zone-requires
-    add-asked
-    zone-peak-requires
-    mul-asked
     zero-requires
+    firm-constant-requires
     with-constant-requires
     returns)

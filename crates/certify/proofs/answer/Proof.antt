@@ -1,0 +1,17 @@
+use Rattle.certify.specs.Printed.{printed}
+use borrow.Author.Needs.{needs}
+use Rattle.certify.proofs.answer.Statement.{statement}
+use Rattle.certify.proofs.answer.Tie as tie
+
+certify-text-requires : tie.Need-certify-text-requires
+certify-text-requires c κs = search needs
+
+answer-line-requires : tie.Need-answer-line-requires
+answer-line-requires c κs = search needs
+
+returns : tie.Need-returns
+unfolding printed
+returns c = rw (← c .before .before .certify-text .ensures) (c .answer-line .ensures)
+
+pub answer-spec : {M : Type 1} → statement M
+answer-spec = tie.close (tie.spec certify-text-requires answer-line-requires returns)

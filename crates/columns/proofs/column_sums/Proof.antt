@@ -1,0 +1,110 @@
+use mathlib.Core.Path.{_≡_}
+use native.Mathlib.Omega.{arith}
+use Rattle.model.specs.Standing.{standing⁺, standing⁻}
+use Rattle.tables.proofs.Laws.{none-of}
+use Rattle.columns.proofs.Arms.{by-first, by-slice, by-second, zone-by-first, zone-by-slice, column-is}
+use Rattle.columns.proofs.column_sums.Statement.{statement}
+use Rattle.columns.proofs.column_sums.Tie as tie
+
+cap-column-requires : tie.Need-cap-column-requires
+cap-column-requires c κs = by-first 0 (c .match .keys1) (c .before .before .pre)
+
+build-column-requires : tie.Need-build-column-requires
+build-column-requires c κs = by-first 1 (c .match .keys2) (c .before .before .pre)
+
+retire-column-requires : tie.Need-retire-column-requires
+retire-column-requires c κs = by-first 2 (c .match .keys3) (c .before .before .pre)
+
+gen-column-requires : tie.Need-gen-column-requires
+gen-column-requires c κs = by-slice 3 (c .match .keys4) (c .before .before .pre)
+
+reserve-column-requires : tie.Need-reserve-column-requires
+reserve-column-requires c κs = by-slice 4 (c .match .keys5) (c .before .before .pre)
+
+trans-column-requires : tie.Need-trans-column-requires
+trans-column-requires c κs = by-second 5 (c .match .keys6) (c .before .before .pre)
+
+unmet-column-requires : tie.Need-unmet-column-requires
+unmet-column-requires c κs = zone-by-slice 6 (c .match .keys7) (c .before .before .pre)
+
+surplus-column-requires : tie.Need-surplus-column-requires
+surplus-column-requires c κs = zone-by-slice 7 (c .match .keys8) (c .before .before .pre)
+
+spinshort-column-requires : tie.Need-spinshort-column-requires
+spinshort-column-requires c κs = zone-by-slice 8 (c .match .keys9) (c .before .before .pre)
+
+firmshort-column-requires : tie.Need-firmshort-column-requires
+firmshort-column-requires c κs =
+    let p = c .before .before .pre in
+    let h = none-of 9 (c .match .rest) in
+    let e : c .before .before .args .k ≡ 9 = omega arith in
+    zone-by-first 9 e p
+
+returns : tie.Need-returns
+unfolding standing⁺ standing⁻
+returns c = column-is 0 (c .before .match .keys1) (c .before .before .before .pre) (c .cap-column .ensures)
+
+returns-2 : tie.Need-returns-2
+unfolding standing⁺ standing⁻
+returns-2 c = column-is 1 (c .before .match .keys2) (c .before .before .before .pre) (c .build-column .ensures)
+
+returns-3 : tie.Need-returns-3
+unfolding standing⁺ standing⁻
+returns-3 c = column-is 2 (c .before .match .keys3) (c .before .before .before .pre) (c .retire-column .ensures)
+
+returns-4 : tie.Need-returns-4
+unfolding standing⁺ standing⁻
+returns-4 c = column-is 3 (c .before .match .keys4) (c .before .before .before .pre) (c .gen-column .ensures)
+
+returns-5 : tie.Need-returns-5
+unfolding standing⁺ standing⁻
+returns-5 c = column-is 4 (c .before .match .keys5) (c .before .before .before .pre) (c .reserve-column .ensures)
+
+returns-6 : tie.Need-returns-6
+unfolding standing⁺ standing⁻
+returns-6 c = column-is 5 (c .before .match .keys6) (c .before .before .before .pre) (c .trans-column .ensures)
+
+returns-7 : tie.Need-returns-7
+unfolding standing⁺ standing⁻
+returns-7 c = column-is 6 (c .before .match .keys7) (c .before .before .before .pre) (c .unmet-column .ensures)
+
+returns-8 : tie.Need-returns-8
+unfolding standing⁺ standing⁻
+returns-8 c = column-is 7 (c .before .match .keys8) (c .before .before .before .pre) (c .surplus-column .ensures)
+
+returns-9 : tie.Need-returns-9
+unfolding standing⁺ standing⁻
+returns-9 c = column-is 8 (c .before .match .keys9) (c .before .before .before .pre) (c .spinshort-column .ensures)
+
+returns-10 : tie.Need-returns-10
+unfolding standing⁺ standing⁻
+returns-10 c =
+    let p = c .before .before .before .pre in
+    let h = none-of 9 (c .before .match .rest) in
+    let e : c .before .before .before .args .k ≡ 9 = omega arith in
+    column-is 9 e p (c .firmshort-column .ensures)
+
+pub column-sums-spec : {M : Type 1} → statement M
+column-sums-spec =
+    tie.close
+    (tie.spec
+    cap-column-requires
+    build-column-requires
+    retire-column-requires
+    gen-column-requires
+    reserve-column-requires
+    trans-column-requires
+    unmet-column-requires
+    surplus-column-requires
+    spinshort-column-requires
+    firmshort-column-requires
+    returns
+    returns-2
+    returns-3
+    returns-4
+    returns-5
+    returns-6
+    returns-7
+    returns-8
+    returns-9
+    returns-10)

@@ -1,0 +1,172 @@
+// The columns cap, build and retire.
+use crate::Pair;
+use crate::families::AVAILABLE;
+use crate::families::CAPITAL;
+use crate::families::FIRM;
+use crate::families::FIXED;
+use crate::families::LIFE;
+use crate::families::LOADING;
+use crate::families::MINIMUM_LOAD;
+use crate::families::NEW_CAPACITY;
+use crate::families::OFFER;
+use crate::families::PROFILED;
+use crate::families::RAMP_DOWN;
+use crate::families::RAMP_UPWARD;
+use crate::families::STOCK;
+use crate::families::YEARLY_BUILD;
+use crate::pairs::add_row;
+use crate::pairs::add_row_if;
+use crate::pairs::join;
+use crate::pairs::none;
+use crate::pairs::take_row_if;
+use crate::readers::after_first_hour;
+use crate::readers::available_hours;
+use crate::readers::is_existing;
+use crate::readers::is_vre;
+use crate::readers::on_min_load_day;
+use crate::readers::out_of_service;
+use crate::readers::weighted_annuity;
+use crate::readers::zone_of;
+use model::Counts;
+use parts::slices::both;
+use tables::entries::by_plant;
+use tables::entries::by_plant_slice;
+use tables::names::CAP_CREDIT;
+use tables::names::MIN_CAP_FAC;
+use tables::names::OVER_LOAD;
+use tables::names::PROFILE;
+use tables::names::RAMP_DN;
+use tables::names::RAMP_UP;
+use tables::names::RES_OFFER;
+use tables::sets::slices_of;
+ghost use mathlib.Core.Path.{_≡_};
+ghost use Prim.Native.Nat.{_<_};
+ghost use Rattle.sums.specs.Linear.{nothing, ∑};
+ghost use Rattle.model.specs.Counts.{slicesOf};
+ghost use Rattle.model.specs.Data.{read};
+ghost use Rattle.model.specs.Standing.{capIn⁺, capIn⁻, buildIn⁻, retireIn⁺, retireIn⁻};
+ghost use Rattle.tables.specs.Layout.{Laid};
+ghost use Rattle.columns.specs.Pairs.{pairOf, Ready};
+ghost use Rattle.columns.specs.Groups.{ratesOf, capInSlice⁺, capInSlice⁻, capInSeason⁺, capInYear⁺, capInYear⁻};
+
+// The numbers of a plant that are its capacity's coefficients in every slice, and whether it is VRE.
+pub struct Rates {
+    pub load: u64,
+    pub offer: u64,
+    pub down: u64,
+    pub up: u64,
+    pub least: u64,
+    pub vre: bool,
+}
+
+fn rates_of(data: &[u32], at: &[usize; 43], c: Counts, g: usize) -> Rates
+    requires { ⌜ Laid (now «data») (now at) c × (g < c .plants) ⌝ }
+    ensures { λ r. ⌜ r ≡ ratesOf (read (now («data» .entry))) g ⌝ }
+{
+    Rates {
+        load: 1000 + by_plant(data, at, c, OVER_LOAD, g),
+        offer: by_plant(data, at, c, RES_OFFER, g),
+        down: by_plant(data, at, c, RAMP_DN, g),
+        up: by_plant(data, at, c, RAMP_UP, g),
+        least: by_plant(data, at, c, MIN_CAP_FAC, g),
+        vre: is_vre(data, at, c, g),
+    }
+}
+
+// The rows of one slice: families 5 to 9 and 11.
+fn cap_in_slice(data: &[u32], ms: &[i64], at: &[usize; 43], rat: &[usize; 21], c: Counts, rates: Rates, y: usize, g: usize, s: usize) -> Pair
+    requires { ⌜ Ready (now «data») (now at) (now ms) (now rat) c × ((rates ≡ ratesOf (read (now «data»)) g) × ((y < c .years) × ((g < c .plants) × (s < slicesOf c)))) ⌝ }
+    ensures { λ r. ⌜ r ≡ pairOf c (now (ms .entry)) (capInSlice⁺ (read (now («data» .entry))) y g s) (capInSlice⁻ (read (now («data» .entry))) y g s) ⌝ }
+{
+    let ramps = after_first_hour(c, s);
+    let profile = by_plant_slice(data, at, c, PROFILE, g, s);
+    let least = on_min_load_day(data, at, c, s);
+    let p = add_row(none(), rates.load, ms, rat, c, LOADING, y, g, 0, s);
+    let q = add_row(p, rates.offer, ms, rat, c, OFFER, y, g, 0, s);
+    let r = add_row_if(ramps, q, rates.down, ms, rat, c, RAMP_DOWN, y, g, 0, s);
+    let t = add_row_if(ramps, r, rates.up, ms, rat, c, RAMP_UPWARD, y, g, 0, s);
+    let u = add_row_if(rates.vre, t, profile, ms, rat, c, PROFILED, y, g, 0, s);
+    take_row_if(least, u, rates.least, ms, rat, c, MINIMUM_LOAD, y, g, 0, s)
+}
+
+fn cap_in_slices(data: &[u32], ms: &[i64], at: &[usize; 43], rat: &[usize; 21], c: Counts, y: usize, g: usize) -> Pair
+    requires { ⌜ Ready (now «data») (now at) (now ms) (now rat) c × ((y < c .years) × (g < c .plants)) ⌝ }
+    ensures { λ r. ⌜ r ≡ pairOf c (now (ms .entry)) (∑ (slicesOf c) (capInSlice⁺ (read (now («data» .entry))) y g)) (∑ (slicesOf c) (capInSlice⁻ (read (now («data» .entry))) y g)) ⌝ }
+{
+    let rates = rates_of(data, at, c, g);
+    let n = slices_of(c);
+    let mut p = none();
+    for s in 0..n {
+        p = join(p, cap_in_slice(data, ms, at, rat, c, rates, y, g, s));
+    }
+    p
+}
+
+// Family 10.
+fn cap_in_season(data: &[u32], ms: &[i64], at: &[usize; 43], rat: &[usize; 21], c: Counts, y: usize, g: usize, q: usize) -> Pair
+    requires { ⌜ Ready (now «data») (now at) (now ms) (now rat) c × ((y < c .years) × ((g < c .plants) × (q < c .seasons))) ⌝ }
+    ensures { λ r. ⌜ r ≡ pairOf c (now (ms .entry)) (capInSeason⁺ (read (now («data» .entry))) y g q) nothing ⌝ }
+{
+    let hours = available_hours(data, at, c, g, q);
+    add_row(none(), hours, ms, rat, c, AVAILABLE, y, g, 0, q)
+}
+
+fn cap_in_seasons(data: &[u32], ms: &[i64], at: &[usize; 43], rat: &[usize; 21], c: Counts, y: usize, g: usize) -> Pair
+    requires { ⌜ Ready (now «data») (now at) (now ms) (now rat) c × ((y < c .years) × (g < c .plants)) ⌝ }
+    ensures { λ r. ⌜ r ≡ pairOf c (now (ms .entry)) (∑ (c .seasons) (capInSeason⁺ (read (now («data» .entry))) y g)) (∑ (c .seasons) (λ _. nothing)) ⌝ }
+{
+    let mut p = none();
+    for q in 0..c.seasons {
+        p = join(p, cap_in_season(data, ms, at, rat, c, y, g, q));
+    }
+    p
+}
+
+// The rows of the year: families 4, 12 (this year's and the next's), 13 and 18.
+fn cap_in_year(data: &[u32], ms: &[i64], at: &[usize; 43], rat: &[usize; 21], c: Counts, y: usize, g: usize) -> Pair
+    requires { ⌜ Ready (now «data») (now at) (now ms) (now rat) c × ((y < c .years) × (g < c .plants)) ⌝ }
+    ensures { λ r. ⌜ r ≡ pairOf c (now (ms .entry)) (capInYear⁺ (read (now («data» .entry))) y g) (capInYear⁻ (read (now («data» .entry))) y g) ⌝ }
+{
+    let z = zone_of(data, at, c, g);
+    let credit = by_plant(data, at, c, CAP_CREDIT, g);
+    let next = y + 1;
+    let annuity = weighted_annuity(data, at, c, y, g);
+    let p = add_row(none(), credit, ms, rat, c, FIRM, y, z, 0, 0);
+    let q = add_row(p, 1, ms, rat, c, STOCK, y, g, 0, 0);
+    let r = take_row_if(next < c.years, q, 1, ms, rat, c, STOCK, next, g, 0, 0);
+    let t = take_row_if(out_of_service(data, at, c, y, g), r, 1, ms, rat, c, LIFE, y, g, 0, 0);
+    take_row_if(!is_existing(data, at, c, g), t, annuity, ms, rat, c, CAPITAL, 0, 0, 0, 0)
+}
+
+pub fn cap_column(data: &[u32], ms: &[i64], at: &[usize; 43], rat: &[usize; 21], c: Counts, y: usize, g: usize) -> Pair
+    requires { ⌜ Ready (now «data») (now at) (now ms) (now rat) c × ((y < c .years) × (g < c .plants)) ⌝ }
+    ensures { λ r. ⌜ r ≡ pairOf c (now (ms .entry)) (capIn⁺ (read (now («data» .entry))) y g) (capIn⁻ (read (now («data» .entry))) y g) ⌝ }
+{
+    let slices = cap_in_slices(data, ms, at, rat, c, y, g);
+    let seasons = cap_in_seasons(data, ms, at, rat, c, y, g);
+    let year = cap_in_year(data, ms, at, rat, c, y, g);
+    join(join(slices, seasons), year)
+}
+
+// Families 12, 14, 15 and 16.
+pub fn build_column(data: &[u32], ms: &[i64], at: &[usize; 43], rat: &[usize; 21], c: Counts, y: usize, g: usize) -> Pair
+    requires { ⌜ Ready (now «data») (now at) (now ms) (now rat) c × ((y < c .years) × (g < c .plants)) ⌝ }
+    ensures { λ r. ⌜ r ≡ pairOf c (now (ms .entry)) nothing (buildIn⁻ (read (now («data» .entry))) y g) ⌝ }
+{
+    let existing = is_existing(data, at, c, g);
+    let p = take_row_if(!existing, none(), 1, ms, rat, c, STOCK, y, g, 0, 0);
+    let q = take_row_if(existing, p, 1, ms, rat, c, FIXED, y, g, 0, 0);
+    let r = take_row_if(!existing, q, 1, ms, rat, c, NEW_CAPACITY, 0, g, 0, 0);
+    take_row_if(!existing, r, 1, ms, rat, c, YEARLY_BUILD, y, g, 0, 0)
+}
+
+// Families 12 and 14.
+pub fn retire_column(data: &[u32], ms: &[i64], at: &[usize; 43], rat: &[usize; 21], c: Counts, y: usize, g: usize) -> Pair
+    requires { ⌜ Ready (now «data») (now at) (now ms) (now rat) c × ((y < c .years) × (g < c .plants)) ⌝ }
+    ensures { λ r. ⌜ r ≡ pairOf c (now (ms .entry)) (retireIn⁺ (read (now («data» .entry))) y g) (retireIn⁻ (read (now («data» .entry))) y g) ⌝ }
+{
+    let existing = is_existing(data, at, c, g);
+    let later = both(existing, 0 < y);
+    let p = add_row_if(later, none(), 1, ms, rat, c, STOCK, y, g, 0, 0);
+    take_row_if(!later, p, 1, ms, rat, c, FIXED, y, g, 0, 0)
+}

@@ -1,0 +1,129 @@
+// The multipliers that a caller hands to certify: the two parts of each, a row's multiplier by family and index, and refusals 9 and 10.
+// Signed numbers are met in `parts_of` and `multiplier_in` only.
+use model::Counts;
+use model::Outcome;
+use model::Refusal;
+use model::Shape;
+use tables::sets::family_at;
+use tables::sets::inside_of;
+ghost use mathlib.Core.Path.{_≡_};
+ghost use mathlib.Core.Bool.{_&&_};
+ghost use Prim.Native.Nat.{ℕ, _≤_, _<_};
+ghost use lib.Dec.{leb};
+ghost use lib.IntN.{pos};
+ghost use lib.ListN.{length, getD};
+ghost use Rattle.sums.specs.Sum.{on};
+ghost use Rattle.sums.specs.Span.{orElse};
+ghost use Rattle.sums.specs.Index.{index, start, count, number};
+ghost use Rattle.model.specs.Data.{Data};
+ghost use Rattle.model.specs.Families.{familyOf, rowBoxes};
+ghost use Rattle.model.specs.Tests.{mostMultiplier, multiplierCountFault, multipliersFault};
+ghost use Rattle.tables.specs.Layout.{outcome, Counted, Inside};
+ghost use Rattle.duals.specs.Multipliers.{multiplierOf, Shaped, Dualled};
+
+// The largest size of a multiplier, 2^40.
+const MOST_MULTIPLIER: u64 = 0x100_0000_0000;
+
+// The size of a multiplier above zero, and its size below zero; one of the two is 0.
+pub struct Multiplier {
+    pub up: u64,
+    pub down: u64,
+}
+
+// -1 - m is never out of range, and 0 - m can be.
+pub fn parts_of(m: i64) -> Multiplier
+    ensures { λ r. ⌜ r ≡ multiplierOf m ⌝ }
+{
+    if m < 0 {
+        return Multiplier { up: 0, down: (-1 - m) as u64 + 1 };
+    }
+    Multiplier { up: m as u64, down: 0 }
+}
+
+// The multiplier of a row's number.
+fn multiplier_in(ms: &[i64], row: usize) -> Multiplier
+    requires { ⌜ row < length (now ms) ⌝ }
+    ensures { λ r. ⌜ r ≡ multiplierOf (getD (now (ms .entry)) row (pos 0)) ⌝ }
+{
+    parts_of(ms[row])
+}
+
+// The row number at which each family starts, and after the last of them the number of rows.
+pub fn row_starts(shape: Shape) -> [usize; 21]
+    requires { ⌜ Shaped shape ⌝ }
+    ensures { λ r. ⌜ (length r ≡ 21) × ((k : ℕ) → k ≤ 20 → getD r k 0 ≡ start (rowBoxes (shape .counts)) k) ⌝ }
+{
+    let mut rat = [0; 21];
+    let mut next = 0;
+    for k in 0..20 {
+        next = next + shape.sizes[k];
+        rat[k + 1] = next;
+    }
+    rat
+}
+
+// The multiplier of a row: family `k`, counted from 0, year `y`, first index `i`, second index `j` and slice `s`.
+// With the family a constant, inlining leaves a few products and one read.
+pub fn multiplier_at(ms: &[i64], rat: &[usize; 21], c: Counts, k: usize, y: usize, i: usize, j: usize, s: usize) -> Multiplier
+    requires { ⌜ Counted c × (Dualled (now ms) (now rat) c × ((k < 20) × Inside c (familyOf k .set) y i j s)) ⌝ }
+    ensures { λ r. ⌜ r ≡ multiplierOf (getD (now (ms .entry)) (number (rowBoxes c) (index k y i j s)) (pos 0)) ⌝ }
+{
+    let f = family_at(k);
+    let o = inside_of(c, f.set, y, i, j, s);
+    multiplier_in(ms, rat[k] + o)
+}
+
+// The largest size below zero: 2^40 in an equality, 0 elsewhere.
+fn most_below(equal: bool) -> u64
+    ensures { λ r. ⌜ r ≡ on equal mostMultiplier ⌝ }
+{
+    if equal {
+        return MOST_MULTIPLIER;
+    }
+    0
+}
+
+fn in_range(m: Multiplier, equal: bool) -> bool
+    ensures { λ r. ⌜ r ≡ (leb (m .up) mostMultiplier && leb (m .down) (on equal mostMultiplier)) ⌝ }
+{
+    if m.up > MOST_MULTIPLIER {
+        return false;
+    }
+    m.down <= most_below(equal)
+}
+
+// Refusal 10: every multiplier in the order of the rows, left at the first that is out of range.
+// A family's rows follow one another, `sizes[k]` of them.
+fn test_ranges(ms: &[i64], shape: Shape) -> Outcome
+    requires { ⌜ Shaped shape × (length (now ms) ≡ count (rowBoxes (shape .counts))) ⌝ }
+    ensures { λ r. ⌜ ((D : Data) → D .counts ≡ shape .counts → r ≡ outcome (multipliersFault D (now (ms .entry)))) ⌝ }
+{
+    let mut row = 0;
+    let mut answer = Outcome::Fine;
+    'walk: for k in 0..20 {
+        let f = family_at(k);
+        let equal = f.equal;
+        for i in 0..shape.sizes[k] {
+            let m = multiplier_in(ms, row);
+            if !in_range(m, equal) {
+                answer = Outcome::Fails(Refusal::Multiplier(row));
+                break 'walk;
+            }
+            row += 1;
+        }
+    }
+    answer
+}
+
+// Refusals 9 and 10.
+pub fn test_multipliers(ms: &[i64], shape: Shape) -> Outcome
+    requires { ⌜ Shaped shape ⌝ }
+    ensures { λ r. ⌜ ((D : Data) → D .counts ≡ shape .counts → r ≡ outcome (orElse (multiplierCountFault D (now (ms .entry))) (multipliersFault D (now (ms .entry))))) ⌝ }
+{
+    let rat = row_starts(shape);
+    let whole = rat[20];
+    if ms.len() != whole {
+        return Outcome::Fails(Refusal::MultiplierCount(whole));
+    }
+    test_ranges(ms, shape)
+}

@@ -1,0 +1,21 @@
+-- What certify answers to a text (document 01, "The certify program"). The text's format is texts/specs/Format.antt.
+use mathlib.Core.List.{List}
+use Prim.Native.Nat.{ℕ}
+use lib.ListN.{getD}
+use Rattle.model.specs.declared.Certificate.{Certificate}
+use Rattle.model.specs.declared.Certificate.the-variants.{Withheld}
+use Rattle.model.specs.declared.Refusal.the-variants.{Frame}
+use Rattle.model.specs.Calls.{certify}
+use Rattle.texts.specs.Format.{Text, frameAt, whole, textOf}
+
+-- N, which is 1 without a SCAL line
+abbrev pub scaleIn : List ℕ → ℕ
+scaleIn xs = getD xs 0 1
+
+-- any Frame comes before every other refusal
+abbrev pub certificateOf : Text → Certificate
+certificateOf (frameAt n) = Withheld (Frame n)
+certificateOf (whole s) = certify (s .ofData) (scaleIn (s .ofScal)) (s .ofPlan) (s .ofDual)
+
+unfoldable pub certifyText : List ℕ → Certificate
+certifyText input = certificateOf (textOf input)

@@ -1,0 +1,53 @@
+// The certify program's answer to its text input.
+use epm::certify;
+use model::Certificate;
+use model::Refusal;
+use texts::Reading;
+use texts::Used;
+use texts::input::read_text;
+ghost use mathlib.Core.Path.{_≡_};
+ghost use Rattle.texts.specs.Buffers.{Room, Within, listsIn};
+ghost use Rattle.texts.specs.Format.{whole};
+ghost use Rattle.frames.specs.Format.{scaleIn, certificateOf, certifyText};
+
+// The most numbers of each word.
+const MOST_DATA: usize = 4096;
+const MOST_PLAN: usize = 2048;
+const MOST_SCAL: usize = 1;
+const MOST_DUAL: usize = 4096;
+
+// N, which is 1 without a SCAL line.
+fn scale_in(scal: &[u32]) -> u32
+    ensures { λ r. ⌜ r ≡ scaleIn (now (scal .entry)) ⌝ }
+{
+    if scal.len() == 0 {
+        return 1;
+    }
+    scal[0]
+}
+
+// The answer to the numbers that the buffers hold.
+fn answer_of(used: Used, data: &[u32], plan: &[u32], scal: &[u32], dual: &[i64]) -> Certificate
+    requires { ⌜ Room (now «data») (now plan) (now scal) (now dual) × Within used ⌝ }
+    ensures { λ r. ⌜ r ≡ certificateOf (whole (listsIn used (now («data» .entry)) (now (plan .entry)) (now (scal .entry)) (now (dual .entry)))) ⌝ }
+{
+    let d = used.data;
+    let p = used.plan;
+    let s = used.scal;
+    let m = used.dual;
+    certify(&data[0..d], scale_in(&scal[0..s]), &plan[0..p], &dual[0..m])
+}
+
+// The answer to a whole text: a Frame comes before every other refusal.
+pub fn certify_text(input: &[u8]) -> Certificate
+    ensures { λ r. ⌜ r ≡ certifyText (now (input .entry)) ⌝ }
+{
+    let mut data = [0u32; MOST_DATA];
+    let mut plan = [0u32; MOST_PLAN];
+    let mut scal = [0u32; MOST_SCAL];
+    let mut dual = [0i64; MOST_DUAL];
+    match read_text(input, &mut data, &mut plan, &mut scal, &mut dual) {
+        Reading::FrameAt(number) => Certificate::Withheld(Refusal::Frame(number)),
+        Reading::Whole(used) => answer_of(used, &data, &plan, &scal, &dual),
+    }
+}

@@ -1,0 +1,44 @@
+use mathlib.Core.Path.{sym, _∙_}
+use Rattle.prices.specs.Costs.{hoursOf}
+use Rattle.prices.proofs.Laws.{rest-hourly, hourly-slices, hourly-hours}
+use borrow.Author.Needs.{needs}
+use Rattle.prices.proofs.column.hours_of.Statement.{statement}
+use Rattle.prices.proofs.column.hours_of.Tie as tie
+
+by-slice-requires : tie.Need-by-slice-requires
+by-slice-requires c κs =
+    let r = c .match .rest in
+    let p = c .before .before .pre in
+    let l = hourly-slices (rest-hourly _ (p .1 .0) (r .0 .0 .0 .0 .1) (r .0 .0 .0 .1) (r .0 .0 .1) (r .0 .1) (r .1)) _ (p .1 .1) in
+    search needs
+
+returns : tie.Need-returns
+unfolding hoursOf
+returns c = rw (c .match .keys1)
+
+returns-2 : tie.Need-returns-2
+unfolding hoursOf
+returns-2 c = rw (c .match .keys2)
+
+returns-3 : tie.Need-returns-3
+unfolding hoursOf
+returns-3 c = rw (c .match .keys3)
+
+returns-4 : tie.Need-returns-4
+unfolding hoursOf
+returns-4 c = rw (c .match .keys4)
+
+returns-5 : tie.Need-returns-5
+unfolding hoursOf
+returns-5 c = rw (c .match .keys5)
+
+returns-6 : tie.Need-returns-6
+returns-6 c =
+    let r = c .before .match .rest in
+    let p = c .before .before .before .pre in
+    c .by-slice .ensures .0 ∙ sym (hourly-hours _ (rest-hourly _ (p .1 .0) (r .0 .0 .0 .0 .1) (r .0 .0 .0 .1) (r .0 .0 .1) (r .0 .1) (r .1)) _)
+
+pub hours-of-spec : {M : Type 1} → statement M
+hours-of-spec =
+    tie.close
+    (tie.spec by-slice-requires returns returns-2 returns-3 returns-4 returns-5 returns-6)

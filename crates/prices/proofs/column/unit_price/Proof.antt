@@ -1,0 +1,89 @@
+use mathlib.Core.Path.{sym, ap, _∙_}
+use Rattle.capped.specs.Cap.{cap}
+use Rattle.capped.proofs.Laws.{times-cap}
+use Rattle.prices.specs.Costs.{unitPrice}
+use Rattle.prices.proofs.Laws.{rest-hourly, hourly-unit}
+use borrow.Author.Needs.{needs}
+use Rattle.prices.proofs.column.unit_price.Statement.{statement}
+use Rattle.prices.proofs.column.unit_price.Tie as tie
+
+year-weight-requires : tie.Need-year-weight-requires
+year-weight-requires c κs = search needs
+
+yearly-price-requires : tie.Need-yearly-price-requires
+yearly-price-requires c κs = let l = rw (c .match .keys1) at (c .before .before .before .pre .1 .1 .1) in search needs
+
+product-requires : tie.Need-product-requires
+product-requires c κs = search needs
+
+zero-requires : tie.Need-zero-requires
+zero-requires c κs = search needs
+
+zero-requires-2 : tie.Need-zero-requires-2
+zero-requires-2 c κs = search needs
+
+zero-requires-3 : tie.Need-zero-requires-3
+zero-requires-3 c κs = search needs
+
+single-requires : tie.Need-single-requires
+single-requires c κs = search needs
+
+product-requires-2 : tie.Need-product-requires-2
+product-requires-2 c κs = search needs
+
+hour-price-requires : tie.Need-hour-price-requires
+hour-price-requires c κs =
+    let r = c .match .rest in
+    let p = c .before .before .before .pre in
+    (p .0, (rest-hourly _ (p .1 .0) (r .0 .0 .0 .0 .1) (r .0 .0 .0 .1) (r .0 .0 .1) (r .0 .1) (r .1), p .1 .1))
+
+scale-requires : tie.Need-scale-requires
+scale-requires c κs = search needs
+
+returns : tie.Need-returns
+unfolding unitPrice
+returns c = c .product .ensures ∙ rw (c .before .before .match .keys1, c .before .before .before .year-weight .ensures, c .before .yearly-price .ensures)
+
+returns-2 : tie.Need-returns-2
+unfolding unitPrice
+returns-2 c = c .zero .ensures ∙ rw (c .before .match .keys2)
+
+returns-3 : tie.Need-returns-3
+unfolding unitPrice
+returns-3 c = c .zero2 .ensures ∙ rw (c .before .match .keys3)
+
+returns-4 : tie.Need-returns-4
+unfolding unitPrice
+returns-4 c = c .zero3 .ensures ∙ rw (c .before .match .keys4)
+
+returns-5 : tie.Need-returns-5
+unfolding unitPrice
+returns-5 c = c .product2 .ensures ∙ rw (c .before .before .match .keys5, c .before .before .before .year-weight .ensures, c .before .single .ensures .0)
+
+returns-6 : tie.Need-returns-6
+returns-6 c =
+    let r = c .before .before .match .rest in
+    let p = c .before .before .before .before .before .pre in
+    let hourly = rest-hourly _ (p .1 .0) (r .0 .0 .0 .0 .1) (r .0 .0 .0 .1) (r .0 .0 .1) (r .0 .1) (r .1) in
+    c .scale .ensures ∙ rw (c .before .hour-price .ensures, c .before .before .before .year-weight .ensures) (times-cap _ _ ∙ ap cap (sym (hourly-unit _ hourly _ _)))
+
+pub unit-price-spec : {M : Type 1} → statement M
+unit-price-spec =
+    tie.close
+    (tie.spec
+    year-weight-requires
+    yearly-price-requires
+    product-requires
+    zero-requires
+    zero-requires-2
+    zero-requires-3
+    single-requires
+    product-requires-2
+    hour-price-requires
+    scale-requires
+    returns
+    returns-2
+    returns-3
+    returns-4
+    returns-5
+    returns-6)

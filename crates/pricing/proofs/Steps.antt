@@ -1,0 +1,57 @@
+-- The walk over all columns: the index sets of the tables of columns. Assumes nothing.
+use mathlib.Core.Path.{_≡_, sym, ap, _∙_}
+use mathlib.Core.List.{List}
+use Prim.Native.Nat.{ℕ, _*_, _≤_, _<_}
+use native.Mathlib.Omega.{arith}
+use lib.IntN.{ℤ}
+use lib.ListN.{length, getD}
+use Rattle.sums.specs.declared.Box.{Box}
+use Rattle.sums.specs.Span.{Fault, first}
+use Rattle.sums.specs.Index.{box, boxOf, members}
+use Rattle.sums.proofs.Lists.{at-place}
+use Rattle.model.specs.declared.Counts.{Counts}
+use Rattle.model.specs.declared.Refusal.{Refusal}
+use Rattle.model.specs.Counts.{sets}
+use Rattle.model.specs.Data.{Data}
+use Rattle.model.specs.Columns.{columnSets, columnBoxes}
+use Rattle.model.specs.Tests.{columnFault, columnsFault}
+use Rattle.tables.specs.Layout.{Counted, Inside, outcome}
+use Rattle.tables.proofs.Laws.{box-at}
+
+-- there are ten tables of columns
+pub table-below : (c : Counts) {k : ℕ} → k < 10 → k < length (columnBoxes c)
+unfolding columnBoxes
+table-below c l = l
+
+pub tables-end : (c : Counts) {k : ℕ} → 10 ≤ k → length (columnBoxes c) ≤ k
+unfolding columnBoxes
+tables-end c l = l
+
+pub columns-fit : (c : Counts) {n : ℕ} → n ≤ 983040 * length (columnBoxes c) → n ≤ 9830400
+unfolding columnBoxes
+columns-fit c l = l
+
+few-years : (c : Counts) (k : ℕ) → k < 10 → boxOf (columnBoxes c) k .years ≤ c .years
+unfolding columnBoxes
+few-years c k l = at-place (λ k b. b .years ≤ c .years) (columnBoxes c) (box 0 0 0 0) (omega arith) k l
+
+-- the box that the code has
+module _ (c : Counts) {k : ℕ} {b : Box} (l : k < 10) (e : b ≡ boxOf (sets c) (getD columnSets k 0)) where
+  pub box-is : b ≡ boxOf (columnBoxes c) k
+  unfolding columnBoxes
+  box-is = e ∙ sym (box-at c columnSets k l)
+
+  pub inside-is : {y i j s : ℕ} → y < b .years → i < b .firsts → j < b .seconds → s < b .slices → Inside c (getD columnSets k 0) y i j s
+  inside-is hy hi hj hs = record { year = rw (← e) hy; «first» = rw (← e) hi; second = rw (← e) hj; slice = rw (← e) hs }
+
+  pub first-below : {i : ℕ} → i < b .firsts → i < boxOf (sets c) (getD columnSets k 0) .firsts
+  first-below h = rw (← e) h
+
+  pub year-below : {y : ℕ} → y < b .years → y < c .years
+  year-below hy = omega (arith, few-years c k l, ap (λ (a : Box). a .years) box-is)
+
+-- the walk's answer
+pub answered : (D : Data) (ms : List ℤ) {c : Counts} {f : Fault Refusal} → D .counts ≡ c → first (members (columnBoxes c)) (columnFault D ms) ≡ f
+    → outcome f ≡ outcome (columnsFault D ms)
+unfolding columnsFault
+answered D ms e h = ap outcome (sym h ∙ ap (λ (c : Counts). first (members (columnBoxes c)) (columnFault D ms)) (sym e))

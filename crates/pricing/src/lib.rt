@@ -1,0 +1,95 @@
+// The walk over all columns, in the order of the plan, left at the first that is off scale or underpriced: refusals 11 and 12.
+use capped::Order;
+use capped::Sum;
+use columns::Pair;
+use columns::column_sums;
+use model::Counts;
+use model::Outcome;
+use model::Refusal;
+use prices::column::hours_of;
+use prices::column::unit_price;
+use tables::starts::column_box;
+ghost use mathlib.Core.Path.{_≡_};
+ghost use mathlib.Core.Bool.{_||_};
+ghost use Prim.Native.Nat.{_<_};
+ghost use lib.ListN.{getD};
+ghost use Rattle.capped.specs.Cap.{cap, over};
+ghost use Rattle.sums.specs.Index.{index, number};
+ghost use Rattle.model.specs.Data.{read};
+ghost use Rattle.model.specs.Columns.{columnSets, columnBoxes};
+ghost use Rattle.model.specs.Tests.{columnFault, columnsFault};
+ghost use Rattle.tables.specs.Layout.{Inside, outcome};
+ghost use Rattle.prices.specs.Costs.{unitPrice};
+ghost use Rattle.columns.specs.Pairs.{Ready};
+ghost use Rattle.pricing.specs.Verdict.{verdictOf};
+
+// Whether either sum of a column is over the limit.
+fn off_scale(sums: Pair) -> bool
+    ensures { λ r. ⌜ r ≡ (over (sums .up) || over (sums .down)) ⌝ }
+{
+    let up = sums.up;
+    let down = sums.down;
+    if capped::is_over(up) {
+        return true;
+    }
+    capped::is_over(down)
+}
+
+// 11 where a sum is over the limit, else 12 where the terms above zero exceed the price and the terms below.
+fn verdict(sums: Pair, price: Sum, column: usize) -> Outcome
+    ensures { λ r. ⌜ r ≡ verdictOf sums price column ⌝ }
+{
+    if off_scale(sums) {
+        return Outcome::Fails(Refusal::ColumnOffScale(column));
+    }
+    let up = sums.up;
+    let down = sums.down;
+    match capped::compare(up, capped::join(price, down)) {
+        Order::Less => Outcome::Fine,
+        Order::Equal => Outcome::Fine,
+        Order::Greater => Outcome::Fails(Refusal::Underpriced(column)),
+        Order::Unknown => Outcome::Fails(Refusal::Underpriced(column)),
+    }
+}
+
+// The test of one column, whose number is `column`; `unit` is the price of its unit, or of a unit's hour.
+fn test_column(
+    data: &[u32], ms: &[i64], at: &[usize; 43], rat: &[usize; 21], c: Counts, k: usize, y: usize, i: usize, j: usize, s: usize, unit: Sum, column: usize,
+) -> Outcome
+    requires { ⌜ Ready (now «data») (now at) (now ms) (now rat) c × ((k < 10) × (Inside c (getD columnSets k 0) y i j s
+        × ((unit ≡ cap (unitPrice (read (now «data»)) k y i)) × (column ≡ number (columnBoxes c) (index k y i j s))))) ⌝ }
+    ensures { λ r. ⌜ r ≡ outcome (columnFault (read (now («data» .entry))) (now (ms .entry)) (index k y i j s)) ⌝ }
+{
+    let sums = column_sums(data, ms, at, rat, c, k, y, i, j, s);
+    let price = capped::scale(unit, hours_of(data, at, c, k, s));
+    verdict(sums, price, column)
+}
+
+// Refusals 11 and 12. The price of a unit is found before the slices, since it does not depend on them.
+pub fn test_columns(data: &[u32], ms: &[i64], at: &[usize; 43], rat: &[usize; 21], c: Counts) -> Outcome
+    requires { ⌜ Ready (now «data») (now at) (now ms) (now rat) c ⌝ }
+    ensures { λ r. ⌜ r ≡ outcome (columnsFault (read (now («data» .entry))) (now (ms .entry))) ⌝ }
+{
+    let mut answer = Outcome::Fine;
+    let mut column = 0;
+    'walk: for k in 0..10 {
+        let b = column_box(c, k);
+        for y in 0..b.years {
+            for i in 0..b.firsts {
+                let unit = unit_price(data, at, c, k, y, i);
+                for j in 0..b.seconds {
+                    for s in 0..b.slices {
+                        match test_column(data, ms, at, rat, c, k, y, i, j, s, unit, column) {
+                            Outcome::Fine => column += 1,
+                            Outcome::Fails(r) => {
+                                answer = Outcome::Fails(r);
+                                break 'walk;
+                            }
+                        }
+                    }
+                }
+            }
+        }
+    }
+    answer
+}

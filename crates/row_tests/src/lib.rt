@@ -1,0 +1,94 @@
+// The walk over all rows, in document 01's order, left at the first row not met: refusals 6 and 7.
+use capped::Order;
+use model::Counts;
+use model::Outcome;
+use model::Refusal;
+use parts::years::year_part;
+use rows::Sides;
+use rows::families::row_sides;
+use tables::names::GEN;
+use tables::names::RESERVE;
+use tables::sets::box_of;
+use tables::sets::family_at;
+use tables::sets::slices_of;
+ghost use mathlib.Core.Path.{_≡_};
+ghost use Prim.Native.Nat.{_<_};
+ghost use Rattle.sums.specs.Span.{fine};
+ghost use Rattle.sums.specs.Index.{index, number};
+ghost use Rattle.model.specs.Data.{read};
+ghost use Rattle.model.specs.Families.{familyOf, rowBoxes};
+ghost use Rattle.model.specs.Tests.{entriesFault, rowFault, rowsFault};
+ghost use Rattle.tables.specs.Layout.{Laid, Planned, Inside, planEntry, outcome};
+ghost use Rattle.energy.specs.Energies.{Energies};
+ghost use Rattle.rows.specs.Ready.{Ready};
+ghost use Rattle.row_tests.specs.Verdict.{verdictOf};
+
+// 6 where a sum is over the limit, else 7 where the row does not hold.
+fn verdict(sides: Sides, equal: bool, row: usize) -> Outcome
+    ensures { λ r. ⌜ r ≡ verdictOf sides equal row ⌝ }
+{
+    let above = sides.above;
+    let below = sides.below;
+    if capped::is_over(above) {
+        return Outcome::Fails(Refusal::RowOffScale(row));
+    }
+    if capped::is_over(below) {
+        return Outcome::Fails(Refusal::RowOffScale(row));
+    }
+    match capped::compare(below, above) {
+        Order::Less => {
+            if equal {
+                return Outcome::Fails(Refusal::Broken(row));
+            }
+            Outcome::Fine
+        }
+        Order::Equal => Outcome::Fine,
+        Order::Greater => Outcome::Fails(Refusal::Broken(row)),
+        Order::Unknown => Outcome::Fails(Refusal::Broken(row)),
+    }
+}
+
+// The test of one row, whose number is `row`.
+fn test_row(
+    data: &[u32], plan: &[u32], outputs: &[u32], reserves: &[u32], energy: &[u64; 1280], at: &[usize; 43],
+    cat: &[usize; 43], c: Counts, scale: u64, k: usize, y: usize, i: usize, j: usize, s: usize, row: usize,
+) -> Outcome
+    requires { ⌜ Ready (now «data») (now plan) (now outputs) (now reserves) (now energy) (now at) (now cat) c y × ((k < 20) × (Inside c (familyOf k .set) y i j s × (row ≡ number (rowBoxes c) (index k y i j s)))) ⌝ }
+    ensures { λ r. ⌜ r ≡ outcome (rowFault (read (now («data» .entry))) scale (planEntry c (now (plan .entry))) (index k y i j s)) ⌝ }
+{
+    let sides = row_sides(data, plan, outputs, reserves, energy, at, cat, c, scale, k, y, i, j, s);
+    let f = family_at(k);
+    verdict(sides, f.equal, row)
+}
+
+// Refusals 6 and 7.
+pub fn test_rows(data: &[u32], plan: &[u32], energy: &[u64; 1280], at: &[usize; 43], cat: &[usize; 43], c: Counts, scale: u64) -> Outcome
+    requires { ⌜ Laid (now «data») (now at) c × ((entriesFault (read (now «data»)) ≡ fine) × (Planned (now plan) (now cat) c × Energies (read (now «data»)) (planEntry c (now plan)) (now energy) c)) ⌝ }
+    ensures { λ r. ⌜ r ≡ outcome (rowsFault (read (now («data» .entry))) scale (planEntry c (now (plan .entry)))) ⌝ }
+{
+    let places = c.plants * slices_of(c);
+    let mut answer = Outcome::Fine;
+    let mut row = 0;
+    'walk: for k in 0..20 {
+        let f = family_at(k);
+        let b = box_of(c, f.set);
+        for y in 0..b.years {
+            let outputs = year_part(plan, cat[GEN], places, y);
+            let reserves = year_part(plan, cat[RESERVE], places, y);
+            for i in 0..b.firsts {
+                for j in 0..b.seconds {
+                    for s in 0..b.slices {
+                        match test_row(data, plan, outputs, reserves, energy, at, cat, c, scale, k, y, i, j, s, row) {
+                            Outcome::Fine => row += 1,
+                            Outcome::Fails(r) => {
+                                answer = Outcome::Fails(r);
+                                break 'walk;
+                            }
+                        }
+                    }
+                }
+            }
+        }
+    }
+    answer
+}

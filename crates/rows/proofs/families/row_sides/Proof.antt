@@ -1,0 +1,221 @@
+use Rattle.model.specs.Families.{familyOf}
+use Rattle.constants.proofs.Laws.{inside-at, last}
+use Rattle.rows.specs.Ready.{sidesOf}
+use Rattle.rows.proofs.Laws.{by-slice, by-first, first-year}
+use Rattle.rows.proofs.families.row_sides.Statement.{statement}
+use Rattle.rows.proofs.families.row_sides.Tie as tie
+
+balance-requires : tie.Need-balance-requires
+unfolding familyOf
+balance-requires c κs = by-slice _ (c .match .keys1) (c .before .before .before .before .before .pre)
+
+transfer-requires : tie.Need-transfer-requires
+unfolding familyOf
+transfer-requires c κs =
+    let p = c .before .before .before .before .before .pre in
+    let m = inside-at _ (c .match .keys2) (p .1 .1) in (p .0, (m .year, (m .first, (m .second, m .slice))))
+
+spinning-requires : tie.Need-spinning-requires
+unfolding familyOf
+spinning-requires c κs = by-slice _ (c .match .keys3) (c .before .before .before .before .before .pre)
+
+firm-requires : tie.Need-firm-requires
+unfolding familyOf
+firm-requires c κs = by-first _ (c .match .keys4) (c .before .before .before .before .before .pre)
+
+loading-requires : tie.Need-loading-requires
+unfolding familyOf
+loading-requires c κs = by-slice _ (c .match .keys5) (c .before .before .before .before .before .pre)
+
+offer-requires : tie.Need-offer-requires
+unfolding familyOf
+offer-requires c κs = by-slice _ (c .match .keys6) (c .before .before .before .before .before .pre)
+
+ramp-down-requires : tie.Need-ramp-down-requires
+unfolding familyOf
+ramp-down-requires c κs = by-slice _ (c .match .keys7) (c .before .before .before .before .before .pre)
+
+ramp-up-requires : tie.Need-ramp-up-requires
+unfolding familyOf
+ramp-up-requires c κs = by-slice _ (c .match .keys8) (c .before .before .before .before .before .pre)
+
+minimum-load-requires : tie.Need-minimum-load-requires
+unfolding familyOf
+minimum-load-requires c κs = by-slice _ (c .match .keys9) (c .before .before .before .before .before .pre)
+
+available-requires : tie.Need-available-requires
+unfolding familyOf
+available-requires c κs = by-slice _ (c .match .keys10) (c .before .before .before .before .before .pre)
+
+profiled-requires : tie.Need-profiled-requires
+unfolding familyOf
+profiled-requires c κs = by-slice _ (c .match .keys11) (c .before .before .before .before .before .pre)
+
+stock-requires : tie.Need-stock-requires
+unfolding familyOf
+stock-requires c κs = by-first _ (c .match .keys12) (c .before .before .before .before .before .pre)
+
+life-requires : tie.Need-life-requires
+unfolding familyOf
+life-requires c κs = by-first _ (c .match .keys13) (c .before .before .before .before .before .pre)
+
+fixed-requires : tie.Need-fixed-requires
+unfolding familyOf
+fixed-requires c κs = by-first _ (c .match .keys14) (c .before .before .before .before .before .pre)
+
+new-capacity-requires : tie.Need-new-capacity-requires
+unfolding familyOf
+new-capacity-requires c κs =
+    let p = c .before .before .before .before .before .pre in
+    let m = inside-at _ (c .match .keys15) (p .1 .1) in (first-year (m .year) (p .0), m .first)
+
+yearly-build-requires : tie.Need-yearly-build-requires
+unfolding familyOf
+yearly-build-requires c κs = by-first _ (c .match .keys16) (c .before .before .before .before .before .pre)
+
+fuel-use-requires : tie.Need-fuel-use-requires
+unfolding familyOf
+fuel-use-requires c κs =
+    let p = c .before .before .before .before .before .pre in
+    let m = inside-at _ (c .match .keys17) (p .1 .1) in (p .0, (m .year, (m .first, m .second)))
+
+capital-requires : tie.Need-capital-requires
+unfolding familyOf
+capital-requires c κs =
+    let p = c .before .before .before .before .before .pre in
+    let m = inside-at _ (c .match .keys18) (p .1 .1) in first-year (m .year) (p .0)
+
+zone-emission-requires : tie.Need-zone-emission-requires
+unfolding familyOf
+zone-emission-requires c κs = by-first _ (c .match .keys19) (c .before .before .before .before .before .pre)
+
+system-emission-requires : tie.Need-system-emission-requires
+unfolding familyOf
+system-emission-requires c κs =
+    let p = c .before .before .before .before .before .pre in
+    let m = inside-at _ (last (p .1 .0) (c .match .rest)) (p .1 .1) in (p .0, m .year)
+
+returns : tie.Need-returns
+unfolding sidesOf
+returns c = rw (c .before .match .keys1) (c .balance .ensures)
+
+returns-2 : tie.Need-returns-2
+unfolding sidesOf
+returns-2 c = rw (c .before .match .keys2) (c .transfer .ensures)
+
+returns-3 : tie.Need-returns-3
+unfolding sidesOf
+returns-3 c = rw (c .before .match .keys3) (c .spinning .ensures)
+
+returns-4 : tie.Need-returns-4
+unfolding sidesOf
+returns-4 c = rw (c .before .match .keys4) (c .firm .ensures)
+
+returns-5 : tie.Need-returns-5
+unfolding sidesOf
+returns-5 c = rw (c .before .match .keys5) (c .loading .ensures)
+
+returns-6 : tie.Need-returns-6
+unfolding sidesOf
+returns-6 c = rw (c .before .match .keys6) (c .offer .ensures)
+
+returns-7 : tie.Need-returns-7
+unfolding sidesOf
+returns-7 c = rw (c .before .match .keys7) (c .ramp-down .ensures)
+
+returns-8 : tie.Need-returns-8
+unfolding sidesOf
+returns-8 c = rw (c .before .match .keys8) (c .ramp-up .ensures)
+
+returns-9 : tie.Need-returns-9
+unfolding sidesOf
+returns-9 c = rw (c .before .match .keys9) (c .minimum-load .ensures)
+
+returns-10 : tie.Need-returns-10
+unfolding sidesOf
+returns-10 c = rw (c .before .match .keys10) (c .available .ensures)
+
+returns-11 : tie.Need-returns-11
+unfolding sidesOf
+returns-11 c = rw (c .before .match .keys11) (c .profiled .ensures)
+
+returns-12 : tie.Need-returns-12
+unfolding sidesOf
+returns-12 c = rw (c .before .match .keys12) (c .stock .ensures)
+
+returns-13 : tie.Need-returns-13
+unfolding sidesOf
+returns-13 c = rw (c .before .match .keys13) (c .life .ensures)
+
+returns-14 : tie.Need-returns-14
+unfolding sidesOf
+returns-14 c = rw (c .before .match .keys14) (c .fixed .ensures)
+
+returns-15 : tie.Need-returns-15
+unfolding sidesOf
+returns-15 c = rw (c .before .match .keys15) (c .new-capacity .ensures)
+
+returns-16 : tie.Need-returns-16
+unfolding sidesOf
+returns-16 c = rw (c .before .match .keys16) (c .yearly-build .ensures)
+
+returns-17 : tie.Need-returns-17
+unfolding sidesOf
+returns-17 c = rw (c .before .match .keys17) (c .fuel-use .ensures)
+
+returns-18 : tie.Need-returns-18
+unfolding sidesOf
+returns-18 c = rw (c .before .match .keys18) (c .capital .ensures)
+
+returns-19 : tie.Need-returns-19
+unfolding sidesOf
+returns-19 c = rw (c .before .match .keys19) (c .zone-emission .ensures)
+
+returns-20 : tie.Need-returns-20
+unfolding sidesOf
+returns-20 c = rw (last (c .before .before .before .before .before .before .pre .1 .0) (c .before .match .rest)) (c .system-emission .ensures)
+
+pub row-sides-spec : {M : Type 1} → statement M
+row-sides-spec =
+    tie.close
+    (tie.spec
+    balance-requires
+    transfer-requires
+    spinning-requires
+    firm-requires
+    loading-requires
+    offer-requires
+    ramp-down-requires
+    ramp-up-requires
+    minimum-load-requires
+    available-requires
+    profiled-requires
+    stock-requires
+    life-requires
+    fixed-requires
+    new-capacity-requires
+    yearly-build-requires
+    fuel-use-requires
+    capital-requires
+    zone-emission-requires
+    system-emission-requires
+    returns
+    returns-2
+    returns-3
+    returns-4
+    returns-5
+    returns-6
+    returns-7
+    returns-8
+    returns-9
+    returns-10
+    returns-11
+    returns-12
+    returns-13
+    returns-14
+    returns-15
+    returns-16
+    returns-17
+    returns-18
+    returns-19
+    returns-20)

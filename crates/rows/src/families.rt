@@ -1,0 +1,62 @@
+// The two sums of any row: its family decides which.
+use crate::Sides;
+use crate::dispatch::available;
+use crate::dispatch::loading;
+use crate::dispatch::minimum_load;
+use crate::dispatch::offer;
+use crate::dispatch::profiled;
+use crate::dispatch::ramp_down;
+use crate::dispatch::ramp_up;
+use crate::fleet::capital;
+use crate::fleet::fixed;
+use crate::fleet::fuel_use;
+use crate::fleet::life;
+use crate::fleet::new_capacity;
+use crate::fleet::stock;
+use crate::fleet::system_emission;
+use crate::fleet::yearly_build;
+use crate::fleet::zone_emission;
+use crate::zones::balance;
+use crate::zones::firm;
+use crate::zones::spinning;
+use crate::zones::transfer;
+use model::Counts;
+ghost use mathlib.Core.Path.{_≡_};
+ghost use Prim.Native.Nat.{_<_};
+ghost use Rattle.sums.specs.Index.{index};
+ghost use Rattle.model.specs.Data.{read};
+ghost use Rattle.model.specs.Families.{familyOf};
+ghost use Rattle.tables.specs.Layout.{Inside, planEntry};
+ghost use Rattle.rows.specs.Ready.{Ready, sidesOf};
+
+// Family `k`, counted from 0, year `y`, first index `i`, second index `j` and slice `s`.
+pub fn row_sides(
+    data: &[u32], plan: &[u32], outputs: &[u32], reserves: &[u32], energy: &[u64; 1280], at: &[usize; 43],
+    cat: &[usize; 43], c: Counts, scale: u64, k: usize, y: usize, i: usize, j: usize, s: usize,
+) -> Sides
+    requires { ⌜ Ready (now «data») (now plan) (now outputs) (now reserves) (now energy) (now at) (now cat) c y × ((k < 20) × Inside c (familyOf k .set) y i j s) ⌝ }
+    ensures { λ r. ⌜ r ≡ sidesOf (read (now («data» .entry))) scale (planEntry c (now (plan .entry))) (index k y i j s) ⌝ }
+{
+    match k {
+        0 => balance(data, plan, outputs, reserves, energy, at, cat, c, scale, y, i, s),
+        1 => transfer(data, plan, outputs, reserves, energy, at, cat, c, scale, y, i, j, s),
+        2 => spinning(data, plan, outputs, reserves, energy, at, cat, c, scale, y, i, s),
+        3 => firm(data, plan, outputs, reserves, energy, at, cat, c, scale, y, i),
+        4 => loading(data, plan, outputs, reserves, energy, at, cat, c, scale, y, i, s),
+        5 => offer(data, plan, outputs, reserves, energy, at, cat, c, scale, y, i, s),
+        6 => ramp_down(data, plan, outputs, reserves, energy, at, cat, c, scale, y, i, s),
+        7 => ramp_up(data, plan, outputs, reserves, energy, at, cat, c, scale, y, i, s),
+        8 => minimum_load(data, plan, outputs, reserves, energy, at, cat, c, scale, y, i, s),
+        9 => available(data, plan, outputs, reserves, energy, at, cat, c, scale, y, i, s),
+        10 => profiled(data, plan, outputs, reserves, energy, at, cat, c, scale, y, i, s),
+        11 => stock(data, plan, outputs, reserves, energy, at, cat, c, scale, y, i),
+        12 => life(data, plan, outputs, reserves, energy, at, cat, c, scale, y, i),
+        13 => fixed(data, plan, outputs, reserves, energy, at, cat, c, scale, y, i),
+        14 => new_capacity(data, plan, outputs, reserves, energy, at, cat, c, scale, i),
+        15 => yearly_build(data, plan, outputs, reserves, energy, at, cat, c, scale, y, i),
+        16 => fuel_use(data, plan, outputs, reserves, energy, at, cat, c, scale, y, i, j),
+        17 => capital(data, plan, outputs, reserves, energy, at, cat, c, scale),
+        18 => zone_emission(data, plan, outputs, reserves, energy, at, cat, c, scale, y, i),
+        _ => system_emission(data, plan, outputs, reserves, energy, at, cat, c, scale, y),
+    }
+}

@@ -1,0 +1,6 @@
+pub mod BufferLaws
+pub mod Enough
+pub mod Examples
+pub mod LineLaws
+pub mod NumberLaws
+pub mod TextLaws

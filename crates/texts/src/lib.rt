@@ -1,0 +1,45 @@
+// The lines of the certify program's text input, read into lent buffers.
+pub mod input;
+pub mod lines;
+pub mod numbers;
+
+// The word that a line opens with.
+pub enum Word {
+    Data,
+    Plan,
+    Scal,
+    Dual,
+    Other,
+}
+
+// A number that was read, or none.
+pub enum Number {
+    Value(u64),
+    NoNumber,
+}
+
+// How many numbers of a word its buffer holds with those of a line, or none where that line is a Frame.
+pub enum Joined {
+    Upto(usize),
+    NotJoined,
+}
+
+// How many numbers of each word its buffer holds.
+pub struct Used {
+    pub data: usize,
+    pub plan: usize,
+    pub scal: usize,
+    pub dual: usize,
+}
+
+// What the buffers hold with the numbers of a line, or none where that line is a Frame.
+pub enum Line {
+    Read(Used),
+    NoLine,
+}
+
+// What the buffers hold with the numbers of all lines, or the number of the first line that is a Frame.
+pub enum Reading {
+    Whole(Used),
+    FrameAt(usize),
+}

@@ -1,0 +1,13 @@
+//! Prints how many inputs of the certify program met each refusal and how they were
+//! made, and where the program and the second implementation differ; exit status
+//! 1 where they do, or where something was not met. The number of seeds may be
+//! given.
+
+use epm_agreement::{measure_program, seeds, verdict};
+use std::process::ExitCode;
+
+fn main() -> ExitCode {
+    let agreement = measure_program(seeds(3000));
+    print!("{agreement}");
+    verdict(agreement.failures())
+}
