@@ -3,10 +3,10 @@
 -- A law's name is FACT-FUNCTION where it gives the function's answer from the fact, and FUNCTION-ANSWER where it gives the fact from the
 -- answer. No law but `limit-least` rests on what number `limit` is. Assumes nothing.
 use mathlib.Core.Path.{_≡_, refl, sym, ap, _∙_}
-use mathlib.Core.Bool.{Bool, true, false, cond}
+use mathlib.Core.Bool.{Bool, true, false, cond, _&&_}
 use mathlib.Core.Logic.{_⊎_, inl, inr, ⊎-elim}
 use Prim.Native.Nat.{ℕ, _+_, _*_, _-_, _/_, _^_, _<_, _≤_, zero-le}
-use native.Mathlib.Nat.{add-zero, mul-zero, lt-of-lt-of-le, le-mul-of-pos-right, le-div-iff-mul-le, div-lt-iff-lt-mul, eq-zero-or-pos, eq-or-lt-of-le, mul-comm}
+use native.Mathlib.Nat.{add-zero, mul-zero, lt-of-lt-of-le, le-mul-of-pos-right, le-div-iff-mul-le, div-lt-iff-lt-mul, eq-zero-or-pos, eq-or-lt-of-le, mul-comm, mul-le-mul}
 use native.Mathlib.Omega.{arith}
 use lib.Dec.{leb, ltb}
 use borrow.Author.Tests.{le-leb, lt-leb, leb-true, leb-false, lt-ltb, le-ltb, ltb-true, ltb-false, ne-eqb}
@@ -18,7 +18,7 @@ use Rattle.capped.specs.declared.Order.{Order}
 use Rattle.capped.specs.declared.Order.the-variants.{Less, Equal, Greater, Unknown}
 use Rattle.capped.specs.declared.Balance.{Balance}
 use Rattle.capped.specs.declared.Balance.the-variants.{Is, BelowZero, Unsure}
-use Rattle.capped.specs.Cap.{limit, cap, plus, plusIf, both, times, order, over, told, word, netOf}
+use Rattle.capped.specs.Cap.{half, limit, cap, plus, plusIf, both, times, order, over, told, word, netOf}
 
 pub le-or-lt : (m n : ℕ) → (m ≤ n) ⊎ (n < m)
 le-or-lt m n = go (leb m n) refl
@@ -97,6 +97,23 @@ both-cap m n = both-plus (cap m) n ∙ plus-cap m n
 
 pub zero-product : (a b : ℕ) → b ≡ 0 → Exact 0 ≡ cap (a * b)
 zero-product a b z = rw (z, mul-zero a, cap-zero)
+
+-- two factors with half the bits
+pub first-large : (a b : ℕ) → half < a → false ≡ (leb a half && leb b half)
+first-large a b h = rw (lt-leb a half h)
+
+pub first-small : (a b : ℕ) {f : Bool} → a ≤ half → f ≡ leb b half → f ≡ (leb a half && leb b half)
+first-small a b h e = e ∙ rw (le-leb a half h)
+
+pub small-product : (a b : ℕ) {f : Bool} → f ≡ (leb a half && leb b half) → f ≡ true → a * b ≤ half * half
+small-product a b e t = go (leb a half) (leb b half) refl refl (sym e ∙ t)
+  where
+    not-both : false ≡ true → ⊥
+    not-both z = let w : _≡_ {A = ℕ} 0 1 = cc in omega arith
+    go : (p q : Bool) → leb a half ≡ p → leb b half ≡ q → (p && q) ≡ true → a * b ≤ half * half
+    go true true x y z = mul-le-mul (leb-true a half x) (leb-true b half y)
+    go true false x y z = absurd (not-both z)
+    go false q x y z = absurd (not-both z)
 
 pub low-product : {a b : ℕ} → 0 < b → a ≤ limit / b → a * b ≤ limit
 low-product p h = le-div-iff-mul-le p .0 h

@@ -3,12 +3,17 @@
 // The crates above hold a `Sum`, and never match on one: they add to it, compare it, and ask for its value by the functions below.
 // Each function says its result by one equation over `specs/Cap.antt`, for every input; `proofs/Laws.antt` has the laws that callers cite.
 ghost use mathlib.Core.Path.{_≡_};
+ghost use mathlib.Core.Bool.{_&&_};
 ghost use Prim.Native.Nat.{_+_, _*_};
+ghost use lib.Dec.{leb};
 ghost use Rattle.capped.specs.declared.Sum.the-variants.{Exact};
-ghost use Rattle.capped.specs.Cap.{cap, plus, plusIf, both, times, order, over, told, word, netOf};
+ghost use Rattle.capped.specs.Cap.{half, cap, plus, plusIf, both, times, order, over, told, word, netOf};
 
 // The largest total that a capped sum holds, 2^62 - 1: `limit` in the specs.
 const LIMIT: u64 = 0x3fff_ffff_ffff_ffff;
+
+// The largest number whose square is at most the limit: `half` in the specs, since it has half the bits.
+const HALF: u64 = 0x7fff_ffff;
 
 pub enum Sum {
     Exact(u64),
@@ -77,8 +82,28 @@ pub fn join(s: Sum, t: Sum) -> Sum
     add(s, n)
 }
 
-// Every product is made here. The zero factor is tested first: `LIMIT / b` needs it.
+// Whether two factors are so small that their product is below the limit, whatever they are: each at most HALF.
+fn both_small(a: u64, b: u64) -> bool
+    ensures { λ r. ⌜ r ≡ (leb a half && leb b half) ⌝ }
+{
+    if a > HALF {
+        return false;
+    }
+    b <= HALF
+}
+
+// Every product is made here. Small factors need no division, which costs more than all the rest.
 pub fn product(a: u64, b: u64) -> Sum
+    ensures { λ r. ⌜ r ≡ cap (a * b) ⌝ }
+{
+    if both_small(a, b) {
+        return Sum::Exact(a * b);
+    }
+    large_product(a, b)
+}
+
+// The zero factor is tested first: `LIMIT / b` needs it.
+fn large_product(a: u64, b: u64) -> Sum
     ensures { λ r. ⌜ r ≡ cap (a * b) ⌝ }
 {
     if b == 0 {

@@ -1,28 +1,27 @@
 use mathlib.Core.Path.{sym}
 use native.Mathlib.Omega.{arith}
 use Rattle.capped.specs.Cap.{limit}
-use Rattle.capped.proofs.Laws.{cap-low, cap-high, zero-product, low-product, high-product}
+use Rattle.capped.proofs.Laws.{cap-low, small-product}
 use borrow.Author.Needs.{needs}
 use Rattle.capped.proofs.product.Statement.{statement}
 use Rattle.capped.proofs.product.Tie as tie
 
-returns : tie.Need-returns
-returns c = zero-product _ _ (omega arith)
-
-div-if2 : tie.Need-div-if2
-div-if2 c = search needs
-
-returns-2 : tie.Need-returns-2
-unfolding limit
-returns-2 c = sym (cap-high _ (high-product (omega arith) (omega arith)))
+both-small-requires : tie.Need-both-small-requires
+both-small-requires c κs = search needs
 
 mul-t4 : tie.Need-mul-t4
-unfolding limit
-mul-t4 c = let h = low-product (omega arith) (c .if2 .left) in record { fits = omega arith }
+mul-t4 c = record { fits = omega (arith, small-product (c .before .before .args .a) (c .before .before .args .b) (c .before .both-small .ensures) (c .if1 .taken)) }
 
-returns-3 : tie.Need-returns-3
+returns : tie.Need-returns
 unfolding limit
-returns-3 c = sym (cap-low _ (low-product (omega arith) (omega arith)))
+returns c = sym (cap-low _ (omega (arith, small-product (c .before .before .args .a) (c .before .before .args .b) (c .before .both-small .ensures) (c .if1 .taken))))
+
+large-product-requires : tie.Need-large-product-requires
+large-product-requires c κs = search needs
+
+returns-2 : tie.Need-returns-2
+returns-2 c = search needs
 
 pub product-spec : {M : Type 1} → statement M
-product-spec = tie.close (tie.spec returns div-if2 returns-2 mul-t4 returns-3)
+product-spec =
+    tie.close (tie.spec both-small-requires mul-t4 returns large-product-requires returns-2)
