@@ -31,7 +31,8 @@
  *              unit of the row's value. FORMAT.md has the units and signs.
  * board        A list that operators read. epm_post writes one year's
  *              generation to it, G*Q*D*T numbers from place `start` on, in
- *              Nths of a MW, plant by plant, each plant's hours in order.
+ *              Nths of a MW: plant by plant, and for each plant season by
+ *              season, day by day, hour by hour.
  * out          The answer's two figures. out_len is 2 or more; only out[0]
  *              and out[1] are written.
  *
