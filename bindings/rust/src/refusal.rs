@@ -3,7 +3,8 @@
 use std::error::Error;
 use std::fmt;
 
-/// What is wrong; as a number, that of document 01.
+/// What is wrong; as a number, that of document 01. `include/epm.h` says when each
+/// is given.
 #[derive(Clone, Copy, Debug, PartialEq, Eq)]
 pub enum Reason {
     Shape = 1,
