@@ -81,8 +81,8 @@
  * second implementation on thousands of inputs (tests/agreement), and those of
  * document 01's example (examples/c, examples/rust).
  *
- * Neither: that the data are right, that the compiler's back end is, and how
- * much stack a call takes (under 32 KiB as it is compiled today).
+ * Not proved: that the data are right, that the compiler's back end is, and
+ * how much stack a call takes (under 32 KiB as it is compiled today).
  *
  *
  * What the caller sees to
