@@ -2,7 +2,6 @@
 //! hand and one pass over the same memory, at full size and at smaller shapes.
 //! Every time is the best of many runs in this one process.
 
-use epm_agreement as proved;
 use epm_reference::generator::draft::Case;
 use epm_reference::generator::sound_case;
 use epm_reference::shape::Shape;
@@ -58,16 +57,15 @@ fn sum_signed(list: &[i64]) -> i64 {
 /// Holds the answers of all to each other before anything is timed.
 fn agree(case: &Case) {
     let (data, scale, plan) = (&case.data, case.scale, &case.plan);
-    let cost = proved::check(data, scale, plan);
-    let certificate = proved::certify(data, scale, plan, &case.multipliers);
+    let certificate = epm::certify(data, scale, plan, &case.multipliers).expect("a sound case");
+    let (cost, gap) = (certificate.cost, certificate.gap);
     let mut board = case.board.clone();
-    let posted = proved::post(data, scale, plan, case.year, &mut board, case.start);
-    assert!(certificate.is_ok(), "{certificate:?}");
-    assert_eq!(cost, certificate.map(|figures| figures.0));
-    assert_eq!(posted, cost);
-    assert_eq!(epm_bench::check(data, scale, plan), cost);
+    let posted = epm::post(data, scale, plan, case.year, &mut board, case.start);
+    assert_eq!(epm::check(data, scale, plan), Ok(cost));
+    assert_eq!(posted, Ok(cost));
+    assert_eq!(epm_bench::check(data, scale, plan), Ok(cost));
     let walked = epm_bench::certify(data, scale, plan, &case.multipliers);
-    assert_eq!(walked, certificate);
+    assert_eq!(walked, Ok((cost, gap)));
 }
 
 fn measure(case: &Case) -> Times {
@@ -80,9 +78,9 @@ fn measure(case: &Case) -> Times {
         whole_pass: best(|| (sum(data) + sum(plan), sum_signed(multipliers))),
         walk_check: best(|| epm_bench::check(data, scale, plan)),
         walk_certify: best(|| epm_bench::certify(data, scale, plan, multipliers)),
-        check: best(|| proved::check(data, scale, plan)),
-        certify: best(|| proved::certify(data, scale, plan, multipliers)),
-        post: best(|| proved::post(data, scale, plan, case.year, &mut board, case.start)),
+        check: best(|| epm::check(data, scale, plan)),
+        certify: best(|| epm::certify(data, scale, plan, multipliers)),
+        post: best(|| epm::post(data, scale, plan, case.year, &mut board, case.start)),
     }
 }
 

@@ -1,5 +1,5 @@
-//! Safe functions over the proved calls of the static library, the proved program,
-//! and the comparison of their answers with the second implementation's.
+//! The proved calls of the static library, the proved program, and the comparison
+//! of their answers with the second implementation's.
 
 mod calls;
 mod compare;
@@ -7,7 +7,7 @@ mod program;
 mod rivals;
 mod verdict;
 
-pub use calls::{certify, check, post, raw_certify, raw_check, raw_post, SHORT_OUT};
+pub use calls::{certify, check, post};
 pub use compare::{measure, Agreement};
 pub use program::{measure_program, program, run_in_pieces, run_program, ProgramAgreement};
 pub use rivals::measure_rivals;

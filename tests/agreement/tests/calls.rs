@@ -1,14 +1,13 @@
 //! The exported calls at the edges of what a caller can hand over.
 
-use epm_agreement::{
-    certify, check, measure, measure_rivals, post, raw_certify, raw_check, raw_post, Agreement,
-    SHORT_OUT,
-};
+use epm::raw::{self, epm_certify, epm_check, epm_post, OUT_TOO_SHORT};
+use epm_agreement::{certify, check, measure, measure_rivals, post, Agreement};
 use epm_reference::generator::random::Random;
 use epm_reference::generator::{shape, sound_case};
 use epm_reference::rows::RowLayout;
 use epm_reference::shape::Shape;
 use epm_reference::Refusal;
+use std::ptr::{null, null_mut};
 
 const UNTOUCHED: u64 = 0x5555_5555_5555_5555;
 
@@ -28,22 +27,22 @@ fn a_short_out_is_refused_and_nothing_is_written() {
     for length in 0..2 {
         let mut out = vec![UNTOUCHED; length];
         assert_eq!(
-            raw_check(&case.data, case.scale, &case.plan, &mut out),
-            SHORT_OUT
+            raw::check(&case.data, case.scale, &case.plan, &mut out),
+            OUT_TOO_SHORT
         );
-        let status = raw_certify(
+        let status = raw::certify(
             &case.data,
             case.scale,
             &case.plan,
             &case.multipliers,
             &mut out,
         );
-        assert_eq!(status, SHORT_OUT);
+        assert_eq!(status, OUT_TOO_SHORT);
         let mut board = vec![7; case.board.len()];
-        let status = raw_post(
+        let status = raw::post(
             &case.data, case.scale, &case.plan, 0, &mut board, 0, &mut out,
         );
-        assert_eq!(status, SHORT_OUT);
+        assert_eq!(status, OUT_TOO_SHORT);
         assert!(out.iter().all(|word| *word == UNTOUCHED));
         assert!(board.iter().all(|place| *place == 7));
     }
@@ -53,7 +52,7 @@ fn a_short_out_is_refused_and_nothing_is_written() {
 fn only_the_first_two_words_of_out_are_written() {
     let case = sound_case(Shape::new([1; 7]), 2);
     let mut out = [UNTOUCHED; 5];
-    assert_eq!(raw_check(&case.data, case.scale, &case.plan, &mut out), 0);
+    assert_eq!(raw::check(&case.data, case.scale, &case.plan, &mut out), 0);
     assert_ne!(out[0], UNTOUCHED);
     assert_eq!(out[1], 0);
     assert!(out[2..].iter().all(|word| *word == UNTOUCHED));
@@ -62,11 +61,11 @@ fn only_the_first_two_words_of_out_are_written() {
         certify(&case.data, case.scale, &case.plan, &case.multipliers).expect("a sound case");
     let mut out = [UNTOUCHED; 5];
     let mut multipliers = case.multipliers.clone();
-    let status = raw_certify(&case.data, case.scale, &case.plan, &multipliers, &mut out);
+    let status = raw::certify(&case.data, case.scale, &case.plan, &multipliers, &mut out);
     assert_eq!(status, 0);
     assert_eq!(out, [cost, gap, UNTOUCHED, UNTOUCHED, UNTOUCHED]);
     multipliers[19] = -1;
-    let status = raw_certify(&case.data, case.scale, &case.plan, &multipliers, &mut out);
+    let status = raw::certify(&case.data, case.scale, &case.plan, &multipliers, &mut out);
     assert_eq!(status, 10);
     assert_eq!(out, [19, 0, UNTOUCHED, UNTOUCHED, UNTOUCHED]);
 }
@@ -103,6 +102,32 @@ fn empty_and_very_long_lists_are_answered() {
         );
         let answer = certify(&case.data, case.scale, &case.plan, multipliers);
         assert_eq!(answer, Err(count));
+    }
+}
+
+/// As `include/epm.h` says.
+#[test]
+fn an_empty_list_may_have_a_null_pointer() {
+    let case = sound_case(Shape::new([1; 7]), 4);
+    let (data, entries) = (case.data.as_ptr(), case.data.len());
+    let (plan, columns) = (case.plan.as_ptr(), case.plan.len());
+    let (scale, mut out) = (case.scale, [UNTOUCHED; 2]);
+    // SAFETY: each pointer and length is that of one list, or null and 0.
+    unsafe {
+        let answer = epm_check(null(), 0, scale, null(), 0, out.as_mut_ptr(), 2);
+        assert_eq!((answer, out), (2, [7, 0]));
+        let answer = epm_check(data, entries, scale, null(), 0, out.as_mut_ptr(), 2);
+        assert_eq!((answer, out), (5, [columns as u64, 0]));
+        let (none, written) = (null(), out.as_mut_ptr());
+        let answer = epm_certify(data, entries, scale, plan, columns, none, 0, written, 2);
+        assert_eq!((answer, out), (9, [20, 0]));
+        let (none, written) = (null_mut(), out.as_mut_ptr());
+        let answer = epm_post(
+            data, entries, scale, plan, columns, 0, none, 0, 0, written, 2,
+        );
+        assert_eq!((answer, out), (14, [0, 0]));
+        let answer = epm_check(data, entries, scale, plan, columns, null_mut(), 0);
+        assert_eq!(answer, OUT_TOO_SHORT);
     }
 }
 
