@@ -7,7 +7,7 @@ use lib.Seq.{sets}
 use Rattle.model.specs.declared.Certificate.{Certificate}
 use Rattle.model.specs.declared.Certificate.the-variants.{Issued, Withheld}
 use Rattle.model.specs.declared.Refusal.the-variants.{Underpriced}
-use Rattle.answer_line.specs.Line.{decimal, letterA, letterR, space, lineFeed, lineOf}
+use Rattle.answer_line.specs.Line.{decimal, lineOf}
 
 -- the number that digits stand for, read from the left after a number v
 abbrev pub readFrom : ℕ → List ℕ → ℕ
@@ -33,11 +33,11 @@ Decimals = (n : ℕ) → DecimalOf n (decimal n)
 abbrev pub LineThenRest : Type 0
 LineThenRest = (a : Certificate) (l : List ℕ) → length (lineOf a) ≤ length l → sets l 0 (lineOf a) ≡ lineOf a ++ drop (length (lineOf a)) l
 
--- `A 40000000000 0`, document 01's first case, and `R 12 3`
+-- `A 40000000000 0`, document 01's first case, and `R 12 3`, byte by byte
 abbrev pub FirstCase : Type 0
 FirstCase =
     lineOf (Issued 40000000000 0)
-    ≡ letterA ∷ space ∷ 52 ∷ 48 ∷ 48 ∷ 48 ∷ 48 ∷ 48 ∷ 48 ∷ 48 ∷ 48 ∷ 48 ∷ 48 ∷ space ∷ 48 ∷ lineFeed ∷ []
+    ≡ 65 ∷ 32 ∷ 52 ∷ 48 ∷ 48 ∷ 48 ∷ 48 ∷ 48 ∷ 48 ∷ 48 ∷ 48 ∷ 48 ∷ 48 ∷ 32 ∷ 48 ∷ 10 ∷ []
 
 abbrev pub FourthCase : Type 0
-FourthCase = lineOf (Withheld (Underpriced 3)) ≡ letterR ∷ space ∷ 49 ∷ 50 ∷ space ∷ 51 ∷ lineFeed ∷ []
+FourthCase = lineOf (Withheld (Underpriced 3)) ≡ 82 ∷ 32 ∷ 49 ∷ 50 ∷ 32 ∷ 51 ∷ 10 ∷ []

@@ -12,8 +12,8 @@ ghost use Rattle.certify.specs.Printed.{printed};
 ghost use Rattle.certify.specs.Received.{Within};
 
 // As much of the input as can decide the answer. Lines that pass hold at most 4096, 2048, 4096 and 1 numbers, so they take at most
-// 4096·14 + 2048·14 + 4096·22 + 14 = 176,142 bytes (one number to a line). The longest good line has 4 + 64·17 + 1 = 1,093 bytes, so the line
-// after them shows as a Frame within 1,094 more bytes, whatever follows.
+// 4096·14 + 2048·14 + 4096·22 + 14 = 176,142 bytes (one number to a line). The longest good line has 4 + 64·17 + 1 = 1,093 bytes, so within that
+// many more the next line either ends or shows as a Frame, whatever follows. `Enough` in specs/Printed.antt says it of this size.
 const INPUT_BYTES: usize = 180224;
 
 enum Received {

@@ -38,8 +38,8 @@ pub fn program(input: Stdio) -> Command {
 pub fn run_in_pieces(pieces: &[&[u8]]) -> io::Result<String> {
     let mut child = program(Stdio::piped()).spawn()?;
     let mut input = child.stdin.take().expect("a pipe");
-    // The program reads all of its input before it writes, and writes less than a
-    // pipe holds, so neither waits for the other.
+    // The program writes less than a pipe holds, and reads its input to the end, so
+    // neither waits for the other.
     let written = pieces.iter().try_for_each(|piece| input.write_all(piece));
     drop(input);
     let output = child.wait_with_output()?;
