@@ -29,13 +29,19 @@ fn the_example_is_the_first_station() {
 
 #[test]
 fn every_example_is_accepted() {
+    let mut texts = 0;
     for file in fs::read_dir(EXAMPLES).expect("the examples") {
         let file = file.expect("an example").path();
+        if file.extension().is_none_or(|end| end != "txt") {
+            continue; // a program in C or Rust
+        }
+        texts += 1;
         let example = fs::read(&file).expect("an example");
         let line = run_program(&example).expect("a line");
         assert_eq!(line, run(&example), "{}", file.display());
         assert!(line.starts_with("A "), "{}: {line}", file.display());
     }
+    assert!(texts >= 2, "{texts} examples");
 }
 
 /// A folder can be opened and not read: there is no input then, and no answer.
