@@ -62,14 +62,43 @@ pub fn row_starts(shape: Shape) -> [usize; 21]
     rat
 }
 
+// The code of a family's index set once more, by match: where the family is a constant, inlining sees through it to the code, and so to the index set.
+// It does not see through a read of the table of families, and then each reading of a multiplier costs four times as much.
+fn set_of(k: usize) -> usize
+    requires { ⌜ k < 20 ⌝ }
+    ensures { λ r. ⌜ r ≡ familyOf k .set ⌝ }
+{
+    match k {
+        0 => 0,
+        1 => 1,
+        2 => 0,
+        3 => 2,
+        4 => 3,
+        5 => 3,
+        6 => 3,
+        7 => 3,
+        8 => 3,
+        9 => 4,
+        10 => 3,
+        11 => 5,
+        12 => 5,
+        13 => 5,
+        14 => 6,
+        15 => 5,
+        16 => 7,
+        17 => 8,
+        18 => 2,
+        _ => 9,
+    }
+}
+
 // The multiplier of a row: family `k`, counted from 0, year `y`, first index `i`, second index `j` and slice `s`.
 // With the family a constant, inlining leaves a few products and one read.
 pub fn multiplier_at(ms: &[i64], rat: &[usize; 21], c: Counts, k: usize, y: usize, i: usize, j: usize, s: usize) -> Multiplier
     requires { ⌜ Counted c × (Dualled (now ms) (now rat) c × ((k < 20) × Inside c (familyOf k .set) y i j s)) ⌝ }
     ensures { λ r. ⌜ r ≡ multiplierOf (getD (now (ms .entry)) (number (rowBoxes c) (index k y i j s)) (pos 0)) ⌝ }
 {
-    let f = family_at(k);
-    let o = inside_of(c, f.set, y, i, j, s);
+    let o = inside_of(c, set_of(k), y, i, j, s);
     multiplier_in(ms, rat[k] + o)
 }
 

@@ -5,11 +5,11 @@ use Rattle.duals.proofs.Laws.{row-is, row-below}
 use Rattle.duals.proofs.multiplier_at.Statement.{statement}
 use Rattle.duals.proofs.multiplier_at.Tie as tie
 
-family-at-requires : tie.Need-family-at-requires
-family-at-requires c κs = search needs
+set-of-requires : tie.Need-set-of-requires
+set-of-requires c κs = search needs
 
 inside-of-requires : tie.Need-inside-of-requires
-inside-of-requires c κs = rw (c .family-at .ensures) (c .before .pre .0, c .before .pre .1 .1 .1)
+inside-of-requires c κs = rw (c .set-of .ensures) (c .before .pre .0, c .before .pre .1 .1 .1)
 
 mul-multiplier-in : tie.Need-mul-multiplier-in
 mul-multiplier-in c = search needs
@@ -20,25 +20,25 @@ element-copy-out-multiplier-in c = search needs
 add-multiplier-in : tie.Need-add-multiplier-in
 add-multiplier-in c =
     let s = c .before .before .before in
-    let e = c .before .before .family-at .ensures in
+    let e = c .before .before .set-of .ensures in
     rw (c .before .inside-of .ensures, e) (record { fits = omega (arith, row-below (s .pre .1 .0) (s .pre .1 .1 .0) (s .pre .1 .1 .1)) })
 
 multiplier-in-requires : tie.Need-multiplier-in-requires
 multiplier-in-requires c κs =
     let s = c .before .before .before in
-    rw (c .before .inside-of .ensures, c .before .before .family-at .ensures) (row-below (s .pre .1 .0) (s .pre .1 .1 .0) (s .pre .1 .1 .1))
+    rw (c .before .inside-of .ensures, c .before .before .set-of .ensures) (row-below (s .pre .1 .0) (s .pre .1 .1 .0) (s .pre .1 .1 .1))
 
 returns : tie.Need-returns
 returns c =
     let s = c .before .before .before .before in
     c .multiplier-in .ensures
-    ∙ rw (c .before .before .inside-of .ensures, c .before .before .before .family-at .ensures, row-is (s .pre .1 .0) (s .pre .1 .1 .0) (s .pre .1 .1 .1))
+    ∙ rw (c .before .before .inside-of .ensures, c .before .before .before .set-of .ensures, row-is (s .pre .1 .0) (s .pre .1 .1 .0) (s .pre .1 .1 .1))
 
 pub multiplier-at-spec : {M : Type 1} → statement M
 multiplier-at-spec =
     tie.close
     (tie.spec
-    family-at-requires
+    set-of-requires
     inside-of-requires
     mul-multiplier-in
     element-copy-out-multiplier-in

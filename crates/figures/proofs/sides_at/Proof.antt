@@ -1,0 +1,55 @@
+use mathlib.Core.Path.{refl}
+use native.Mathlib.Omega.{arith}
+use Rattle.tables.proofs.Laws.{small}
+use Rattle.parts.proofs.Parts.{places-are, part-asked}
+use Rattle.row_tests.proofs.Steps.{ready}
+use Rattle.figures.proofs.Laws.{row-inside, row-year}
+use borrow.Author.Needs.{needs}
+use Rattle.figures.proofs.sides_at.Statement.{statement}
+use Rattle.figures.proofs.sides_at.Tie as tie
+
+slices-of-requires : tie.Need-slices-of-requires
+slices-of-requires c κs = search needs
+
+mul-places : tie.Need-mul-places
+mul-places c = small 32 384 tt (c .before .before .before .before .pre .0 .0 .counted .fewPlants) (c .before .slices-of .ensures .1)
+
+element-copy-out-year-part : tie.Need-element-copy-out-year-part
+element-copy-out-year-part c = search needs
+
+year-part-requires : tie.Need-year-part-requires
+year-part-requires c κs =
+    let p = c .before .before .before .before .before .pre in
+    let few = p .0 .0 .counted in
+    part-asked few (p .0 .1 .1 .0) (row-year _ (p .1) few) (places-are (c .before .before .before .before .before .args .c) (c .before .before .slices-of .ensures .0)) 3 (omega arith) refl
+
+element-copy-out-year-part-2 : tie.Need-element-copy-out-year-part-2
+element-copy-out-year-part-2 c = search needs
+
+year-part-requires-2 : tie.Need-year-part-requires-2
+year-part-requires-2 c κs =
+    let p = c .before .before .before .before .before .before .before .pre in
+    let few = p .0 .0 .counted in
+    part-asked few (p .0 .1 .1 .0) (row-year _ (p .1) few) (places-are (c .before .before .before .before .before .before .before .args .c) (c .before .before .before .before .slices-of .ensures .0)) 4 (omega arith) refl
+
+row-sides-requires : tie.Need-row-sides-requires
+row-sides-requires c κs =
+    let p = c .before .before .before .before .before .before .before .before .pre in
+    let places = places-are (c .before .before .before .before .before .before .before .before .args .c) (c .before .before .before .before .before .slices-of .ensures .0) in
+    (ready (p .0) (row-year _ (p .1) (p .0 .0 .counted)) places (c .before .before .year-part .ensures) (c .year-part2 .ensures), row-inside _ (p .1))
+
+returns : tie.Need-returns
+returns c = search needs
+
+pub sides-at-spec : {M : Type 1} → statement M
+sides-at-spec =
+    tie.close
+    (tie.spec
+    slices-of-requires
+    mul-places
+    element-copy-out-year-part
+    year-part-requires
+    element-copy-out-year-part-2
+    year-part-requires-2
+    row-sides-requires
+    returns)

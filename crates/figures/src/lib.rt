@@ -1,0 +1,160 @@
+// The figures behind a refusal: the sums of a row, the sums and the price of a column, an entry and its range.
+// Each by the place that `places` finds, for lists that passed the refusals before.
+use capped::Amount;
+use capped::Balance;
+use capped::Sum;
+use columns::Pair;
+use columns::column_sums;
+use duals::row_starts;
+use energy::totals::fill_energies;
+use model::Counts;
+use parts::years::year_part;
+use places::Place;
+use prices::column::hours_of;
+use prices::column::unit_price;
+use rows::Sides;
+use rows::families::row_sides;
+use tables::names::GEN;
+use tables::names::RESERVE;
+use tables::ranges::range_at;
+use tables::sets::shape_of;
+use tables::sets::slices_of;
+use tables::starts::column_starts;
+use tables::starts::table_starts;
+use tables::tests::counts_of;
+ghost use mathlib.Core.Path.{_≡_};
+ghost use Prim.Native.Nat.{ℕ, _+_, _-_, _<_};
+ghost use lib.ListN.{length, getD};
+ghost use Rattle.capped.specs.declared.Balance.the-variants.{Is};
+ghost use Rattle.sums.specs.Span.{fine, fault, orElse};
+ghost use Rattle.sums.specs.Index.{count, Member};
+ghost use Rattle.model.specs.declared.Refusal.the-variants.{Underpriced};
+ghost use Rattle.model.specs.Data.{tableBoxes, placeOf, read};
+ghost use Rattle.model.specs.Columns.{columnBoxes, entries};
+ghost use Rattle.model.specs.Families.{rowBoxes};
+ghost use Rattle.model.specs.Prices.{price};
+ghost use Rattle.model.specs.Tests.{headFault, countsFault, lengthFault, entriesFault, dataFault, priced⁺, priced⁻, columnFault};
+ghost use Rattle.tables.specs.Layout.{Laid, Planned, planEntry};
+ghost use Rattle.energy.specs.Energies.{Energies};
+ghost use Rattle.rows.specs.Ready.{sidesOf};
+ghost use Rattle.columns.specs.Pairs.{Ready};
+ghost use Rattle.places.specs.Numbers.{indexOf};
+ghost use Rattle.figures.specs.Figures.{toldSides, toldPair, rowFigures, columnFigures, entryFigures};
+
+// What a row's positive terms and its negative terms come to.
+pub struct RowFigures {
+    pub above: Amount,
+    pub below: Amount,
+}
+
+// What a column's terms m·a above zero and below come to, its price, and how far it is underpriced: up - (price + down).
+pub struct ColumnFigures {
+    pub up: Amount,
+    pub down: Amount,
+    pub price: Amount,
+    pub short: Balance,
+}
+
+// An entry of the data, and the least and the most that it may be.
+pub struct EntryFigures {
+    pub least: u64,
+    pub most: u64,
+    pub entry: u64,
+}
+
+fn told_sides(sides: Sides) -> RowFigures
+    ensures { λ r. ⌜ r ≡ toldSides sides ⌝ }
+{
+    let above = sides.above;
+    let below = sides.below;
+    RowFigures { above: capped::value(above), below: capped::value(below) }
+}
+
+// The two sums of the row at a place.
+fn sides_at(data: &[u32], plan: &[u32], energy: &[u64; 1280], at: &[usize; 43], cat: &[usize; 43], c: Counts, scale: u64, p: Place) -> Sides
+    requires { ⌜ (Laid (now «data») (now at) c × ((entriesFault (read (now «data»)) ≡ fine) × (Planned (now plan) (now cat) c × Energies (read (now «data»)) (planEntry c (now plan)) (now energy) c)))
+        × Member (rowBoxes c) (indexOf p) ⌝ }
+    ensures { λ r. ⌜ r ≡ sidesOf (read (now («data» .entry))) scale (planEntry c (now (plan .entry))) (indexOf p) ⌝ }
+{
+    let places = c.plants * slices_of(c);
+    let outputs = year_part(plan, cat[GEN], places, p.year);
+    let reserves = year_part(plan, cat[RESERVE], places, p.year);
+    row_sides(data, plan, outputs, reserves, energy, at, cat, c, scale, p.kind, p.year, p.first, p.second, p.slice)
+}
+
+// A row of data and plan that passed refusals 1 to 5.
+pub fn row_figures(data: &[u32], scale: u32, plan: &[u32], p: Place) -> RowFigures
+    requires { ⌜ (dataFault (now «data») ≡ fine) × ((length (now plan) ≡ count (columnBoxes (read (now «data») .counts))) × Member (rowBoxes (read (now «data») .counts)) (indexOf p)) ⌝ }
+    ensures { λ r. ⌜ r ≡ rowFigures (read (now («data» .entry))) scale (entries (read (now («data» .entry))) (now (plan .entry))) (indexOf p) ⌝ }
+{
+    let c = counts_of(data);
+    let at = table_starts(c);
+    let cat = column_starts(c);
+    let mut energy = [0; 1280];
+    fill_energies(data, plan, &at, &cat, c, &mut energy);
+    told_sides(sides_at(data, plan, &energy, &at, &cat, c, scale as u64, p))
+}
+
+fn told_pair(sums: Pair, price: Sum) -> ColumnFigures
+    ensures { λ r. ⌜ r ≡ toldPair sums price ⌝ }
+{
+    let up = sums.up;
+    let down = sums.down;
+    ColumnFigures {
+        up: capped::value(up),
+        down: capped::value(down),
+        price: capped::value(price),
+        short: capped::difference(up, capped::join(price, down)),
+    }
+}
+
+// The sums and the price of the column at a place.
+fn priced_at(data: &[u32], ms: &[i64], at: &[usize; 43], rat: &[usize; 21], c: Counts, p: Place) -> ColumnFigures
+    requires { ⌜ Ready (now «data») (now at) (now ms) (now rat) c × Member (columnBoxes c) (indexOf p) ⌝ }
+    ensures { λ r. ⌜ r ≡ columnFigures (read (now («data» .entry))) (now (ms .entry)) (indexOf p) ⌝ }
+{
+    let sums = column_sums(data, ms, at, rat, c, p.kind, p.year, p.first, p.second, p.slice);
+    let unit = unit_price(data, at, c, p.kind, p.year, p.first);
+    let hours = hours_of(data, at, c, p.kind, p.slice);
+    told_pair(sums, capped::scale(unit, hours))
+}
+
+// A column of data that passed refusals 1 to 3, with a multiplier for each row. Of an underpriced column `short` is how far it is.
+pub fn column_figures(data: &[u32], multipliers: &[i64], p: Place) -> ColumnFigures
+    requires { ⌜ (dataFault (now «data») ≡ fine) × ((length (now multipliers) ≡ count (rowBoxes (read (now «data») .counts))) × Member (columnBoxes (read (now «data») .counts)) (indexOf p)) ⌝ }
+    ensures { λ r. ⌜ (r ≡ columnFigures (read (now («data» .entry))) (now (multipliers .entry)) (indexOf p))
+        × ((n : ℕ) → columnFault (read (now («data» .entry))) (now (multipliers .entry)) (indexOf p) ≡ fault (Underpriced n)
+            → r .short ≡ Is (priced⁺ (read (now («data» .entry))) (now (multipliers .entry)) (indexOf p)
+                - (price (read (now («data» .entry))) (indexOf p) + priced⁻ (read (now («data» .entry))) (now (multipliers .entry)) (indexOf p)))) ⌝ }
+{
+    let shape = shape_of(counts_of(data));
+    let c = shape.counts;
+    let at = table_starts(c);
+    let rat = row_starts(shape);
+    priced_at(data, multipliers, &at, &rat, c, p)
+}
+
+fn wide(x: u32) -> u64
+    ensures { λ r. ⌜ r ≡ x ⌝ }
+{
+    x as u64
+}
+
+fn number_at(list: &[u32], i: usize) -> u64
+    requires { ⌜ i < length (now list) ⌝ }
+    ensures { λ r. ⌜ r ≡ getD (now (list .entry)) i 0 ⌝ }
+{
+    wide(list[i])
+}
+
+// The entry at `place` of data that passed refusals 1 and 2; `p` is what stands there.
+pub fn entry_figures(data: &[u32], p: Place, place: usize) -> EntryFigures
+    requires { ⌜ (orElse (headFault (now «data»)) (orElse (countsFault (now «data»)) (lengthFault (now «data»))) ≡ fine)
+        × (Member (tableBoxes (read (now «data») .counts)) (indexOf p) × (placeOf (read (now «data») .counts) (indexOf p) ≡ place)) ⌝ }
+    ensures { λ r. ⌜ r ≡ entryFigures (read (now («data» .entry))) (indexOf p) ⌝ }
+{
+    let c = counts_of(data);
+    let at = table_starts(c);
+    let range = range_at(data, &at, c, p.kind, p.first, p.second);
+    EntryFigures { least: wide(range.least), most: wide(range.most), entry: number_at(data, place) }
+}
