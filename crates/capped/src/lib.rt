@@ -92,7 +92,7 @@ fn both_small(a: u64, b: u64) -> bool
     b <= HALF
 }
 
-// Every product is made here. Small factors need no division, which costs more than all the rest.
+// Every product is made here. Small factors, which most are, need no division.
 pub fn product(a: u64, b: u64) -> Sum
     ensures { λ r. ⌜ r ≡ cap (a * b) ⌝ }
 {

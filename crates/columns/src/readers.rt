@@ -1,6 +1,7 @@
 // What the columns read in common: a plant's zone and fuel, the conditions of the rows, and the coefficients that are products.
 use model::Counts;
 use parts::slices::day_of;
+use parts::slices::first_hour;
 use parts::slices::long;
 use parts::slices::season_of;
 use tables::entries::by_day;
@@ -72,7 +73,7 @@ pub fn after_first_hour(c: Counts, s: usize) -> bool
     requires { ⌜ Counted c ⌝ }
     ensures { λ r. ⌜ r ≡ ltb 0 (s % c .hours) ⌝ }
 {
-    0 < s % c.hours
+    !first_hour(c, s)
 }
 
 pub fn on_min_load_day(data: &[u32], at: &[usize; 43], c: Counts, s: usize) -> bool

@@ -63,7 +63,7 @@ pub fn row_starts(shape: Shape) -> [usize; 21]
 }
 
 // The code of a family's index set once more, by match: where the family is a constant, inlining sees through it to the code, and so to the index set.
-// It does not see through a read of the table of families, and then each reading of a multiplier costs four times as much.
+// It does not see through a read of the table of families: docs/BENCHMARKS.md has what that costs certify.
 fn set_of(k: usize) -> usize
     requires { ⌜ k < 20 ⌝ }
     ensures { λ r. ⌜ r ≡ familyOf k .set ⌝ }

@@ -1,11 +1,14 @@
 -- Laws of the calendar and of the year's parts.
 use mathlib.Core.Path.{_≡_, refl, sym, _∙_, ap}
+use mathlib.Core.Bool.{Bool, not}
 use mathlib.Core.List.{List}
-use Prim.Native.Nat.{ℕ, suc, _+_, _*_, _-_, _/_, _≤_, _<_}
+use Prim.Native.Nat.{ℕ, zero, suc, _+_, _*_, _-_, _/_, _≤_, _<_}
 use native.Mathlib.Nat.{mul-pos, mul-assoc, div-lt-iff-lt-mul, mul-le-mul}
 use native.Mathlib.Omega.{arith}
+use lib.Dec.{eqb, ltb}
 use lib.ListN.{length, getD, take, drop, length-take, length-drop}
 use lib.Seq.{getD-take, getD-drop}
+use borrow.Author.Tests.{ne-eqb, lt-ltb}
 use Rattle.sums.specs.Index.{index}
 use Rattle.sums.proofs.Numbering.{below-product}
 use Rattle.model.specs.declared.Counts.{Counts}
@@ -13,6 +16,11 @@ use Rattle.model.specs.Counts.{slicesOf, seasonLength}
 use Rattle.tables.specs.Layout.{Counted, Planned, planEntry}
 use Rattle.tables.proofs.Laws.{few-slices}
 use Rattle.parts.specs.Years.{YearPart}
+
+-- t > 0, by the test of a day's first hour
+pub after-first : (t : ℕ) {b : Bool} → b ≡ eqb t 0 → not b ≡ ltb 0 t
+after-first zero e = rw e
+after-first (suc t) e = rw (e, ne-eqb (suc t) 0 (λ z. omega arith), lt-ltb 0 (suc t) (omega arith))
 
 module _ {c : Counts} (n : Counted c) where
   -- a season has slices

@@ -9,7 +9,7 @@ use native.Mathlib.Nat.{add-zero, zero-add, mul-zero, zero-mod}
 use native.Mathlib.Omega.{arith}
 use lib.Dec.{eqb, leb, ltb}
 use lib.ListN.{getD}
-use borrow.Author.Tests.{eq-eqb, ne-eqb, eqb-true, eqb-false, le-ltb, lt-ltb, le-leb, lt-leb, not-true, not-false}
+use borrow.Author.Tests.{eq-eqb, ne-eqb, eqb-false, le-ltb, lt-ltb, le-leb, lt-leb, not-true, not-false}
 use Rattle.capped.specs.declared.Sum.{Sum}
 use Rattle.capped.specs.Cap.{cap, plus, plusIf, both}
 use Rattle.capped.proofs.Laws.{plus-cap, both-cap, le-or-lt}
@@ -22,6 +22,7 @@ use Rattle.model.specs.Counts.{sets, slicesOf, [yzs]}
 use Rattle.model.specs.Families.{familyOf}
 use Rattle.tables.specs.Layout.{Inside, planEntry}
 use Rattle.parts.specs.Years.{YearPart}
+use Rattle.parts.proofs.Laws.{after-first}
 use Rattle.terms.proofs.Laws.{plus-on}
 use Rattle.constants.specs.declared.Constant.{Constant}
 use Rattle.constants.proofs.Laws.{inside-at}
@@ -78,11 +79,10 @@ no-terms N e = e ∙ plain N 0 0 refl refl
 
 -- the first hour of a day, t = 0, and a later one
 pub first-hour : {b : Bool} (t : ℕ) → b ≡ eqb t 0 → b ≡ true → ltb 0 t ≡ false
-first-hour t e h = let z = eqb-true t 0 (sym e ∙ h) in le-ltb 0 t (omega arith)
+first-hour t e h = sym (after-first t e) ∙ ap not h
 
 pub later-hour : {b : Bool} (t : ℕ) → b ≡ eqb t 0 → b ≡ false → ltb 0 t ≡ true
-later-hour t e h =
-    ⊎-elim (λ (l : t ≤ 0). let z : t ≡ 0 = omega arith in absurd (eqb-false t 0 (sym e ∙ h) z)) (λ (l : 0 < t). lt-ltb 0 t l) (le-or-lt t 0)
+later-hour t e h = sym (after-first t e) ∙ ap not h
 
 -- a slice after the first hour of its day has one before it
 pub some-before : {b : Bool} (s n : ℕ) → b ≡ eqb (s % n) 0 → b ≡ false → 1 ≤ s
