@@ -48,17 +48,16 @@ fn verdict(sides: Sides, equal: bool, row: usize) -> Outcome
     }
 }
 
-// The test of one row, whose number is `row`.
+// The test of one row, whose number is `row`. Whether its family is one of equalities is looked up once for the family, by the caller.
 fn test_row(
     data: &[u32], plan: &[u32], outputs: &[u32], reserves: &[u32], energy: &[u64; 1280], at: &[usize; 43],
-    cat: &[usize; 43], c: Counts, scale: u64, k: usize, y: usize, i: usize, j: usize, s: usize, row: usize,
+    cat: &[usize; 43], c: Counts, scale: u64, k: usize, y: usize, i: usize, j: usize, s: usize, equal: bool, row: usize,
 ) -> Outcome
-    requires { ⌜ Ready (now «data») (now plan) (now outputs) (now reserves) (now energy) (now at) (now cat) c y × ((k < 20) × (Inside c (familyOf k .set) y i j s × (row ≡ number (rowBoxes c) (index k y i j s)))) ⌝ }
+    requires { ⌜ Ready (now «data») (now plan) (now outputs) (now reserves) (now energy) (now at) (now cat) c y × ((k < 20) × (Inside c (familyOf k .set) y i j s × ((equal ≡ familyOf k .equal) × (row ≡ number (rowBoxes c) (index k y i j s))))) ⌝ }
     ensures { λ r. ⌜ r ≡ outcome (rowFault (read (now («data» .entry))) scale (planEntry c (now (plan .entry))) (index k y i j s)) ⌝ }
 {
     let sides = row_sides(data, plan, outputs, reserves, energy, at, cat, c, scale, k, y, i, j, s);
-    let f = family_at(k);
-    verdict(sides, f.equal, row)
+    verdict(sides, equal, row)
 }
 
 // Refusals 6 and 7.
@@ -78,7 +77,7 @@ pub fn test_rows(data: &[u32], plan: &[u32], energy: &[u64; 1280], at: &[usize; 
             for i in 0..b.firsts {
                 for j in 0..b.seconds {
                     for s in 0..b.slices {
-                        match test_row(data, plan, outputs, reserves, energy, at, cat, c, scale, k, y, i, j, s, row) {
+                        match test_row(data, plan, outputs, reserves, energy, at, cat, c, scale, k, y, i, j, s, f.equal, row) {
                             Outcome::Fine => row += 1,
                             Outcome::Fails(r) => {
                                 answer = Outcome::Fails(r);

@@ -1,6 +1,5 @@
 use mathlib.Core.Path.{sym, ap, _∙_}
 use Rattle.sums.specs.Index.{index, number}
-use Rattle.model.specs.declared.Family.{Family}
 use Rattle.model.specs.declared.Counts.{Counts}
 use Rattle.model.specs.Families.{rowBoxes}
 use Rattle.row_tests.proofs.Verdicts.{verdict-is}
@@ -11,19 +10,15 @@ use Rattle.row_tests.proofs.test_row.Tie as tie
 row-sides-requires : tie.Need-row-sides-requires
 row-sides-requires c κs = search needs
 
-family-at-requires : tie.Need-family-at-requires
-family-at-requires c κs = search needs
-
 verdict-requires : tie.Need-verdict-requires
 verdict-requires c κs = search needs
 
 returns : tie.Need-returns
 returns c =
-    let c4 = c .before .before .before .before in
-    let a = c4 .before .before .before .args in
-    let p = c4 .before .before .before .pre in
-    c .verdict .ensures ∙ verdict-is _ _ _ (index (a .k) (a .y) (a .i) (a .j) (a .s)) (c .before .before .row-sides .ensures) (ap (λ (f : Family). f .equal) (c .before .family-at .ensures))
-    (p .1 .1 .1 ∙ ap (λ (c : Counts). number (rowBoxes c) (index (a .k) (a .y) (a .i) (a .j) (a .s))) (sym (p .0 .laid .counts)))
+    let a = c .before .before .before .before .before .before .args in
+    let p = c .before .before .before .before .before .before .pre in
+    c .verdict .ensures ∙ verdict-is _ _ _ (index (a .k) (a .y) (a .i) (a .j) (a .s)) (c .before .row-sides .ensures) (p .1 .1 .1 .0)
+    (p .1 .1 .1 .1 ∙ ap (λ (c : Counts). number (rowBoxes c) (index (a .k) (a .y) (a .i) (a .j) (a .s))) (sym (p .0 .laid .counts)))
 
 pub test-row-spec : {M : Type 1} → statement M
-test-row-spec = tie.close (tie.spec row-sides-requires family-at-requires verdict-requires returns)
+test-row-spec = tie.close (tie.spec row-sides-requires verdict-requires returns)
