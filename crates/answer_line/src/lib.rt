@@ -26,7 +26,7 @@ fn digit_of(number: u64) -> u8
 }
 
 // A number's decimal digits from a place on; the place after them.
-fn put_decimal(line: &mut [u8; 64], at: usize, number: u64) -> usize
+pub fn put_decimal(line: &mut [u8; 64], at: usize, number: u64) -> usize
     requires { ⌜ at + length (decimal number) ≤ 64 ⌝ }
     ensures { λ r. ⌜ Put (now (line .entry)) at (decimal number) r (now (line .exit)) ⌝ }
 {

@@ -3,7 +3,8 @@ use mathlib.Core.Path.{ap}
 use native.Mathlib.Omega.{arith}
 use Rattle.answer_line.specs.Line.{lineOf}
 use Rattle.frames.proofs.Laws.{fixed-buffer}
-use Rattle.certify.specs.Printed.{printed, inputBytes, Enough}
+use Rattle.standard_input.specs.Size.{inputBytes}
+use Rattle.certify.specs.Printed.{printed, Enough}
 
 pub enough : Enough
 unfolding printed

@@ -3,16 +3,13 @@ use mathlib.Core.Path.{_≡_}
 use mathlib.Core.List.{List}
 use Prim.Native.Nat.{ℕ}
 use lib.ListN.{take}
+use Rattle.standard_input.specs.Size.{inputBytes}
 use Rattle.frames.specs.Format.{certifyText}
 use Rattle.answer_line.specs.Line.{lineOf}
 
 -- `A cost gap` or `R number place`, and a line feed
 unfoldable pub printed : List ℕ → List ℕ
 printed input = lineOf (certifyText input)
-
--- the size of the program's buffer: `INPUT_BYTES` in the code
-abbrev pub inputBytes : ℕ
-inputBytes = 180224
 
 -- what stands behind the buffer's bytes decides nothing (proofs/Enough.antt)
 abbrev pub Enough : Type 0

@@ -41,7 +41,7 @@ pub fn parts_of(m: i64) -> Multiplier
 }
 
 // The multiplier of a row's number.
-fn multiplier_in(ms: &[i64], row: usize) -> Multiplier
+pub fn multiplier_in(ms: &[i64], row: usize) -> Multiplier
     requires { ⌜ row < length (now ms) ⌝ }
     ensures { λ r. ⌜ r ≡ multiplierOf (getD (now (ms .entry)) row (pos 0)) ⌝ }
 {

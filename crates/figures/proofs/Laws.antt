@@ -65,9 +65,11 @@ module _ (c : Counts) {k y i j s : ℕ} (m : Member (columnBoxes c) (index k y i
   column-year = column.year-below c (column-inside .0) refl (column-inside .1 .year)
 
 module _ (c : Counts) {t y i j s : ℕ} (m : Member (tableBoxes c) (index t y i j s)) where
-  pub entry-first : (t < 42) × (i < boxOf (sets c) (getD tableSets t 0) .firsts)
+  pub entry-inside : (t < 42) × Inside c (getD tableSets t 0) y i j s
   unfolding tableBoxes
-  entry-first = (m .0, rw (← box-at c tableSets t (m .0)) (m .2))
+  entry-inside =
+      let e : boxOf (tableBoxes c) t ≡ boxOf (sets c) (getD tableSets t 0) = box-at c tableSets t (m .0) in
+      (m .0, record { year = rw (← e) (m .1); «first» = rw (← e) (m .2); second = rw (← e) (m .3); slice = rw (← e) (m .4) })
 
   pub entry-below : placeOf c (index t y i j s) < dataLength c
   unfolding placeOf dataLength

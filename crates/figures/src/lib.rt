@@ -140,7 +140,7 @@ fn wide(x: u32) -> u64
     x as u64
 }
 
-fn number_at(list: &[u32], i: usize) -> u64
+pub fn number_at(list: &[u32], i: usize) -> u64
     requires { ⌜ i < length (now list) ⌝ }
     ensures { λ r. ⌜ r ≡ getD (now (list .entry)) i 0 ⌝ }
 {

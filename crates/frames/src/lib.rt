@@ -11,13 +11,13 @@ ghost use Rattle.texts.specs.Format.{whole};
 ghost use Rattle.frames.specs.Format.{scaleIn, certificateOf, certifyText};
 
 // The most numbers of each word.
-const MOST_DATA: usize = 4096;
-const MOST_PLAN: usize = 2048;
-const MOST_SCAL: usize = 1;
-const MOST_DUAL: usize = 4096;
+pub const MOST_DATA: usize = 4096;
+pub const MOST_PLAN: usize = 2048;
+pub const MOST_SCAL: usize = 1;
+pub const MOST_DUAL: usize = 4096;
 
 // N, which is 1 without a SCAL line.
-fn scale_in(scal: &[u32]) -> u32
+pub fn scale_in(scal: &[u32]) -> u32
     ensures { λ r. ⌜ r ≡ scaleIn (now (scal .entry)) ⌝ }
 {
     if scal.len() == 0 {

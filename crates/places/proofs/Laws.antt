@@ -4,7 +4,7 @@ use mathlib.Core.Bool.{false}
 use mathlib.Core.Logic.{⊎-elim}
 use mathlib.Core.List.{List}
 use Prim.Native.Nat.{ℕ, zero, suc, _+_, _*_, _-_, _/_, _%_, _≤_, _<_}
-use native.Mathlib.Nat.{zero-add, mul-zero, mul-comm, mod-lt, div-lt-iff-lt-mul, div-add-mod', div-div-eq-div-mul, eq-or-lt-of-le}
+use native.Mathlib.Nat.{zero-add, mul-zero, mod-lt, div-lt-iff-lt-mul, div-add-mod', eq-or-lt-of-le}
 use native.Mathlib.Omega.{arith}
 use lib.ListN.{length, getD}
 use Rattle.sums.specs.declared.Box.{Box}
@@ -14,7 +14,7 @@ use Rattle.sums.proofs.Sums.{sum-one-more}
 use Rattle.model.specs.declared.Counts.{Counts}
 use Rattle.model.specs.declared.Family.{Family}
 use Rattle.model.specs.declared.Shape.{Shape}
-use Rattle.model.specs.Counts.{sets, seasonLength}
+use Rattle.model.specs.Counts.{sets}
 use Rattle.model.specs.Data.{tableBoxes}
 use Rattle.model.specs.Columns.{columnSets, columnBoxes}
 use Rattle.model.specs.Families.{family, families, familyOf, rowBoxes, shapeOf}
@@ -22,7 +22,7 @@ use Rattle.tables.specs.Layout.{Counted, tableSets, startFrom}
 use Rattle.tables.proofs.Laws.{getD-map-in, box-at, start-at}
 use Rattle.duals.specs.Multipliers.{Shaped}
 use Rattle.places.specs.declared.Place.{Place}
-use Rattle.places.specs.Numbers.{indexOf, InBox, InSlice}
+use Rattle.places.specs.Numbers.{indexOf, InBox, sliceAt, SlicesBack}
 
 -- the first start is at most n and the last is above it: there is a kind
 pub some-kind : (starts : List ℕ) (kinds : ℕ) {n : ℕ} → getD starts 0 0 ≤ n → n < getD starts kinds 0 → 0 < kinds
@@ -130,13 +130,11 @@ shaped {c} {shape} n e =
     record { counted = rw q n; sized = e ∙ ap shapeOf (sym q) }
 
 -- a slice's season, day and hour
-pub slice-is : {c : Counts} → Counted c → (s : ℕ) {q d : ℕ} → (q ≡ s / seasonLength c) × (q < c .seasons) → d ≡ s / c .hours % c .days
-    → InSlice c s (record { season = q; day = d; hour = s % c .hours })
-slice-is {c} n s {q} {d} h e =
-    let season : q ≡ s / c .hours / c .days = h .0 ∙ rw (mul-comm (c .days) (c .hours)) (sym (div-div-eq-div-mul s (c .hours) (c .days))) in
-    record {
-      season = h .1;
-      day = rw e (mod-lt _ (n .someDays));
-      hour = mod-lt _ (n .someHours);
-      number = rw (season, e, div-add-mod' (s / c .hours) (c .days), div-add-mod' s (c .hours));
-    }
+pub slices-back : SlicesBack
+unfolding sliceAt
+slices-back c n s h = record {
+  season = quotient-below _ _ (quotient-below _ _ h);
+  day = mod-lt _ (n .someDays);
+  hour = mod-lt _ (n .someHours);
+  number = rw (div-add-mod' (s / c .hours) (c .days), div-add-mod' s (c .hours));
+}

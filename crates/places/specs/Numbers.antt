@@ -1,12 +1,14 @@
 -- A place as a kind and four indices, and what it is to have a number.
 use mathlib.Core.Path.{_≡_}
 use mathlib.Core.List.{List}
-use Prim.Native.Nat.{ℕ, _+_, _*_, _<_}
+use Prim.Native.Nat.{ℕ, _+_, _*_, _/_, _%_, _<_}
 use lib.ListN.{getD}
 use Rattle.sums.specs.declared.Box.{Box}
 use Rattle.sums.specs.Span.{listing}
 use Rattle.sums.specs.Index.{Index, index, inside, number, members, Member}
 use Rattle.model.specs.declared.Counts.{Counts}
+use Rattle.model.specs.Counts.{slicesOf}
+use Rattle.tables.specs.Layout.{Counted}
 use Rattle.places.specs.declared.Place.{Place}
 use Rattle.places.specs.declared.Slice.{Slice}
 
@@ -30,9 +32,17 @@ pub record InBox (b : Box) (k m : ℕ) (p : Place) : Type 0 where
   pub slice : p .slice < b .slices
   pub number : inside b (p .year) (p .first) (p .second) (p .slice) ≡ m
 
+-- a slice by its season, its day of the season and its hour of the day
+unfoldable pub sliceAt : Counts → ℕ → Slice
+sliceAt c s = record { season = s / c .hours / c .days; day = s / c .hours % c .days; hour = s % c .hours }
+
 -- the season q, the day d and the hour t of a slice s = (q·D + d)·T + t
 pub record InSlice (c : Counts) (s : ℕ) (p : Slice) : Type 0 where
   pub season : p .season < c .seasons
   pub day : p .day < c .days
   pub hour : p .hour < c .hours
   pub number : (p .season * c .days + p .day) * c .hours + p .hour ≡ s
+
+-- every slice of the year has its season, day and hour there, and they give its number back (proofs/Laws.antt)
+abbrev pub SlicesBack : Type 0
+SlicesBack = (c : Counts) → Counted c → (s : ℕ) → s < slicesOf c → InSlice c s (sliceAt c s)

@@ -1,8 +1,6 @@
 // From the number of a row, a column or a data entry to its kind and indices: the inverse of document 01's numbering.
 use duals::row_starts;
 use model::Counts;
-use parts::slices::day_of;
-use parts::slices::season_of;
 use sums::Box;
 use tables::sets::box_of;
 use tables::sets::family_at;
@@ -15,12 +13,11 @@ ghost use mathlib.Core.Path.{_≡_};
 ghost use Prim.Native.Nat.{_+_, _≤_, _<_};
 ghost use lib.ListN.{length, getD};
 ghost use Rattle.sums.specs.Index.{volume, count, Member};
-ghost use Rattle.model.specs.Counts.{slicesOf};
 ghost use Rattle.model.specs.Data.{tableBoxes, placeOf, dataLength};
 ghost use Rattle.model.specs.Columns.{columnBoxes};
 ghost use Rattle.model.specs.Families.{rowBoxes};
 ghost use Rattle.tables.specs.Layout.{Counted};
-ghost use Rattle.places.specs.Numbers.{indexOf, Numbered, InBox, InSlice};
+ghost use Rattle.places.specs.Numbers.{indexOf, Numbered, InBox, sliceAt};
 
 // A row, a column or a data entry: its kind, year, first index, second index and slice, each counted from 0.
 pub struct Place {
@@ -100,8 +97,9 @@ pub fn entry_place(c: Counts, place: usize) -> Place
 
 // The season, the day and the hour of a slice.
 pub fn slice_at(c: Counts, s: usize) -> Slice
-    requires { ⌜ Counted c × (s < slicesOf c) ⌝ }
-    ensures { λ r. ⌜ InSlice c s r ⌝ }
+    requires { ⌜ Counted c ⌝ }
+    ensures { λ r. ⌜ r ≡ sliceAt c s ⌝ }
 {
-    Slice { season: season_of(c, s), day: day_of(c, s), hour: s % c.hours }
+    let day_of_year = s / c.hours;
+    Slice { season: day_of_year / c.days, day: day_of_year % c.days, hour: s % c.hours }
 }

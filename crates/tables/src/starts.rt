@@ -19,12 +19,28 @@ const TABLE_SETS: [usize; 42] = [
 // The code of each table's index set, in the order of the plan.
 const COLUMN_SETS: [usize; 10] = [5, 5, 5, 3, 3, 1, 0, 0, 0, 2];
 
+// The code of the index set of a table of the data.
+pub fn table_set(t: usize) -> usize
+    requires { ⌜ t < 42 ⌝ }
+    ensures { λ r. ⌜ r ≡ getD tableSets t 0 ⌝ }
+{
+    TABLE_SETS[t]
+}
+
+// The code of the index set of a table of columns.
+pub fn column_set(k: usize) -> usize
+    requires { ⌜ k < 10 ⌝ }
+    ensures { λ r. ⌜ r ≡ getD columnSets k 0 ⌝ }
+{
+    COLUMN_SETS[k]
+}
+
 // The index set of a table of the data.
 pub fn table_box(c: Counts, t: usize) -> Box
     requires { ⌜ Counted c × (t < 42) ⌝ }
     ensures { λ r. ⌜ (r ≡ boxOf (sets c) (getD tableSets t 0)) × Small r ⌝ }
 {
-    box_of(c, TABLE_SETS[t])
+    box_of(c, table_set(t))
 }
 
 // The index set of a table of columns.
@@ -32,7 +48,7 @@ pub fn column_box(c: Counts, k: usize) -> Box
     requires { ⌜ Counted c × (k < 10) ⌝ }
     ensures { λ r. ⌜ (r ≡ boxOf (sets c) (getD columnSets k 0)) × Small r ⌝ }
 {
-    box_of(c, COLUMN_SETS[k])
+    box_of(c, column_set(k))
 }
 
 // Where each of the kinds starts that a list of index sets names, and after the last of them where the list ends.

@@ -18,7 +18,7 @@ ghost use Rattle.tables.specs.Layout.{outcome, Laid};
 // The largest that each count may be.
 const MOST_COUNTS: [u32; 7] = [8, 32, 8, 4, 4, 24, 10];
 
-fn most_count(i: usize) -> u32
+pub fn most_count(i: usize) -> u32
     requires { ⌜ i < 7 ⌝ }
     ensures { λ r. ⌜ r ≡ getD mostCounts i 0 ⌝ }
 {

@@ -1,4 +1,4 @@
-use Rattle.certify.proofs.Laws.{bytes-within}
+use Rattle.standard_input.proofs.Laws.{bytes-within}
 use borrow.Author.Needs.{needs}
 use Rattle.certify.proofs.main.Statement.{statement}
 use Rattle.certify.proofs.main.Tie as tie

@@ -2,7 +2,7 @@ use Rattle.model.specs.Data.{tableBoxes}
 use Rattle.tables.proofs.Passed.{passed-long, passed-counts, passed-laid}
 use Rattle.epm.proofs.Laws.{counts-read}
 use Rattle.places.specs.Numbers.{indexOf}
-use Rattle.figures.proofs.Laws.{counted-alike, entry-first, entry-in, entry-told}
+use Rattle.figures.proofs.Laws.{counted-alike, entry-inside, entry-in, entry-told}
 use borrow.Author.Needs.{needs}
 use Rattle.figures.proofs.entry_figures.Statement.{statement}
 use Rattle.figures.proofs.entry_figures.Tie as tie
@@ -18,7 +18,8 @@ range-at-requires c κs =
     let a = c .before .before .before .before in
     let l = a .args .«data» .now in
     let counts = c .before .before .counts-of .ensures in
-    (passed-laid l (a .pre .0) _ counts (c .before .table-starts .ensures .1), entry-first _ (counted-alike tableBoxes (indexOf (a .args .p)) (counts-read l counts) (a .pre .1 .0)))
+    let inside = entry-inside _ (counted-alike tableBoxes (indexOf (a .args .p)) (counts-read l counts) (a .pre .1 .0)) in
+    (passed-laid l (a .pre .0) _ counts (c .before .table-starts .ensures .1), (inside .0, inside .1 .first))
 
 wide-requires : tie.Need-wide-requires
 wide-requires c κs = search needs

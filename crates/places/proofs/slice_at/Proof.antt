@@ -1,21 +1,24 @@
+use mathlib.Core.Path.{refl}
+use Rattle.places.specs.Numbers.{sliceAt}
 use borrow.Author.Needs.{needs}
-use Rattle.places.proofs.Laws.{slice-is}
 use Rattle.places.proofs.slice_at.Statement.{statement}
 use Rattle.places.proofs.slice_at.Tie as tie
 
-season-of-requires : tie.Need-season-of-requires
-season-of-requires c κs = search needs
+div-day-of-year : tie.Need-div-day-of-year
+div-day-of-year c = search needs
 
-day-of-requires : tie.Need-day-of-requires
-day-of-requires c κs = search needs
+div-t4 : tie.Need-div-t4
+div-t4 c = search needs
 
 rem-t5 : tie.Need-rem-t5
 rem-t5 c = search needs
 
+rem-t6 : tie.Need-rem-t6
+rem-t6 c = search needs
+
 returns : tie.Need-returns
-returns c =
-    let a = c .before .before .before in
-    slice-is (a .pre .0) (a .args .s) (c .before .before .season-of .ensures) (c .before .day-of .ensures .0)
+unfolding sliceAt
+returns c = refl
 
 pub slice-at-spec : {M : Type 1} → statement M
-slice-at-spec = tie.close (tie.spec season-of-requires day-of-requires rem-t5 returns)
+slice-at-spec = tie.close (tie.spec div-day-of-year div-t4 rem-t5 rem-t6 returns)

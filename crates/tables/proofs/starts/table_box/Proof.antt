@@ -2,17 +2,14 @@ use borrow.Author.Needs.{needs}
 use Rattle.tables.proofs.starts.table_box.Statement.{statement}
 use Rattle.tables.proofs.starts.table_box.Tie as tie
 
-mul-box-of : tie.Need-mul-box-of
-mul-box-of c = search needs
-
-array-read-box-of : tie.Need-array-read-box-of
-array-read-box-of c = search needs
+table-set-requires : tie.Need-table-set-requires
+table-set-requires c κs = search needs
 
 box-of-requires : tie.Need-box-of-requires
 box-of-requires c κs = search needs
 
 returns : tie.Need-returns
-returns c = c .box-of .ensures
+returns c = rw (← c .before .table-set .ensures) (c .box-of .ensures)
 
 pub table-box-spec : {M : Type 1} → statement M
-table-box-spec = tie.close (tie.spec mul-box-of array-read-box-of box-of-requires returns)
+table-box-spec = tie.close (tie.spec table-set-requires box-of-requires returns)

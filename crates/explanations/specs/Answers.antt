@@ -1,0 +1,59 @@
+-- What is said of an answer of certify, as bytes: one line.
+use mathlib.Core.List.{List, _++_}
+use Prim.Native.Nat.{ℕ}
+use lib.IntN.{ℤ}
+use lib.ListN.{length}
+use Rattle.model.specs.declared.Refusal.{Refusal}
+use Rattle.model.specs.declared.Refusal.the-variants.{Shape, DataLength, Entry, Scale, PlanLength, RowOffScale, Broken, CostOffScale, MultiplierCount, Multiplier, ColumnOffScale, Underpriced, GapOffScale, Board, Frame}
+use Rattle.model.specs.declared.Certificate.{Certificate}
+use Rattle.model.specs.declared.Certificate.the-variants.{Issued, Withheld}
+use Rattle.model.specs.Data.{read}
+use Rattle.model.specs.Columns.{entries}
+use Rattle.model.specs.Calls.{codeOf}
+use Rattle.texts.specs.Claims.{bytes}
+use Rattle.writer.specs.Names.{nameAt}
+use Rattle.sentences.specs.Sentences.{with, lengthWords, shapeWords, outOfRangeWords, scaleWords, offScaleWords, brokenWords, multiplierWords, columnOffScaleWords, underpricedWords}
+
+-- the words of the refusals, by number; there is no refusal 0
+abbrev pub refusalNames : List ℕ
+refusalNames = bytes "/Shape/Data length/Entry/Scale/Plan length/Row off scale/Broken/Cost off scale/Multiplier count/Multiplier/Column off scale/Underpriced/Gap off scale/Board/Frame"
+
+-- a line that is not of the format
+unfoldable pub frameWords : ℕ → List ℕ
+frameWords n =
+    with "line " n ++ bytes " of the input is not a line of DATA, PLAN, SCAL or DUAL as document 01 has them, or brings more numbers than may come"
+
+-- an acceptance: cost and gap are in Nths of a millionth of a money unit
+unfoldable pub acceptedWords : ℕ → ℕ → ℕ → List ℕ
+acceptedWords N cost gap =
+    with "Accepted: at scale " N ++ (with " the plan costs " cost ++ (with " and no other plan costs less by more than " gap ++ bytes ", in millionths of a money unit\n"))
+
+-- The whole sentence
+
+module _ (l : List ℕ) (N : ℕ) (plan : List ℕ) (ms : List ℤ) where
+  -- the place of a refusal, and its figures; certify never answers 14
+  unfoldable pub bodyWords : Refusal → List ℕ
+  bodyWords (Shape i) = shapeWords l i
+  bodyWords (DataLength n) = lengthWords (bytes "DATA") (length l) n
+  bodyWords (Entry n) = outOfRangeWords (read l) n
+  bodyWords Scale = scaleWords N
+  bodyWords (PlanLength n) = lengthWords (bytes "PLAN") (length plan) n
+  bodyWords (RowOffScale n) = offScaleWords (read l) N (entries (read l) plan) n
+  bodyWords (Broken n) = brokenWords (read l) N (entries (read l) plan) n
+  bodyWords CostOffScale = bytes "the cost is more than 2^62 - 1"
+  bodyWords (MultiplierCount n) = lengthWords (bytes "DUAL") (length ms) n
+  bodyWords (Multiplier n) = multiplierWords (read l) ms n
+  bodyWords (ColumnOffScale n) = columnOffScaleWords (read l) ms n
+  bodyWords (Underpriced n) = underpricedWords (read l) ms n
+  bodyWords GapOffScale = bytes "a sum of the terms N*m*k is more than 2^62 - 1"
+  bodyWords Board = bytes "the year is none of the plan's, or the board has too few places"
+  bodyWords (Frame n) = frameWords n
+
+  -- a refusal's word, then its place
+  unfoldable pub refusedWords : Refusal → List ℕ
+  refusedWords r = nameAt refusalNames (codeOf r .number) ++ (bytes ": " ++ (bodyWords r ++ bytes "\n"))
+
+  -- one line
+  unfoldable pub sentence : Certificate → List ℕ
+  sentence (Issued cost gap) = acceptedWords N cost gap
+  sentence (Withheld r) = refusedWords r

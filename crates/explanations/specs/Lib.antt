@@ -1,0 +1,4 @@
+pub mod Asked
+pub mod Answers
+pub mod Explained
+pub mod Claims

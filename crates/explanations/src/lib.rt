@@ -1,0 +1,169 @@
+// The answer to a text: the line of certify, and a line that says it in words.
+use answer_line::answer_line;
+use codes::code_of;
+use epm::certify;
+use frames::MOST_DATA;
+use frames::MOST_DUAL;
+use frames::MOST_PLAN;
+use frames::MOST_SCAL;
+use frames::scale_in;
+use model::Certificate;
+use model::Refusal;
+use sentences::amounts::say_lengths;
+use sentences::column_words::say_column_off_scale;
+use sentences::column_words::say_underpriced;
+use sentences::entry_words::say_out_of_range;
+use sentences::entry_words::say_scale;
+use sentences::entry_words::say_shape;
+use sentences::row_words::say_broken;
+use sentences::row_words::say_multiplier;
+use sentences::row_words::say_off_scale;
+use texts::Reading;
+use texts::Used;
+use texts::input::read_text;
+use writer::ROOM;
+use writer::say;
+use writer::say_name;
+use writer::say_with;
+ghost use mathlib.Core.Path.{_≡_};
+ghost use Rattle.texts.specs.Buffers.{Room, Within, listsIn};
+ghost use Rattle.texts.specs.Format.{whole};
+ghost use Rattle.answer_line.specs.Line.{lineOf};
+ghost use Rattle.writer.specs.Writing.{Started, Said};
+ghost use Rattle.explanations.specs.Asked.{Asked, AskedOf};
+ghost use Rattle.explanations.specs.Answers.{frameWords, bodyWords, refusedWords, acceptedWords, sentence};
+ghost use Rattle.explanations.specs.Explained.{answerWords, certifiedWords, explanationOf, Explains};
+
+// The bytes of an explanation: the first `used` of them.
+pub struct Explanation {
+    pub bytes: [u8; ROOM],
+    pub used: usize,
+}
+
+// A line that is not one of the format.
+fn say_frame(line: &mut [u8; ROOM], at: usize, number: usize) -> usize
+    requires { ⌜ Started (now line) at ⌝ }
+    ensures { λ r. ⌜ Said (now (line .entry)) at (frameWords number) r (now (line .exit)) ⌝ }
+{
+    let numbered = say_with(line, at, b"line ", number as u64);
+    say(line, numbered, b" of the input is not a line of DATA, PLAN, SCAL or DUAL as document 01 has them, or brings more numbers than may come")
+}
+
+// The place of a refusal, and its figures.
+fn say_body(line: &mut [u8; ROOM], at: usize, data: &[u32], scale: u32, plan: &[u32], multipliers: &[i64], refusal: Refusal) -> usize
+    requires { ⌜ Started (now line) at × Asked (now «data») (now plan) (now multipliers) refusal ⌝ }
+    ensures { λ r. ⌜ Said (now (line .entry)) at (bodyWords (now («data» .entry)) scale (now (plan .entry)) (now (multipliers .entry)) refusal) r (now (line .exit)) ⌝ }
+{
+    match refusal {
+        Refusal::Shape(count) => say_shape(line, at, data, count),
+        Refusal::DataLength(numbers) => say_lengths(line, at, b"DATA", data.len(), numbers),
+        Refusal::Entry(entry) => say_out_of_range(line, at, data, entry),
+        Refusal::Scale => say_scale(line, at, scale),
+        Refusal::PlanLength(columns) => say_lengths(line, at, b"PLAN", plan.len(), columns),
+        Refusal::RowOffScale(large) => say_off_scale(line, at, data, scale, plan, large),
+        Refusal::Broken(row) => say_broken(line, at, data, scale, plan, row),
+        Refusal::CostOffScale => say(line, at, b"the cost is more than 2^62 - 1"),
+        Refusal::MultiplierCount(rows) => say_lengths(line, at, b"DUAL", multipliers.len(), rows),
+        Refusal::Multiplier(multiplier) => say_multiplier(line, at, data, multipliers, multiplier),
+        Refusal::ColumnOffScale(wide) => say_column_off_scale(line, at, data, multipliers, wide),
+        Refusal::Underpriced(column) => say_underpriced(line, at, data, multipliers, column),
+        Refusal::GapOffScale => say(line, at, b"a sum of the terms N*m*k is more than 2^62 - 1"),
+        Refusal::Board => say(line, at, b"the year is none of the plan's, or the board has too few places"),
+        Refusal::Frame(number) => say_frame(line, at, number),
+    }
+}
+
+// A refusal: its word, its place and its figures.
+fn say_refusal(line: &mut [u8; ROOM], at: usize, data: &[u32], scale: u32, plan: &[u32], multipliers: &[i64], refusal: Refusal) -> usize
+    requires { ⌜ Started (now line) at × Asked (now «data») (now plan) (now multipliers) refusal ⌝ }
+    ensures { λ r. ⌜ Said (now (line .entry)) at (refusedWords (now («data» .entry)) scale (now (plan .entry)) (now (multipliers .entry)) refusal) r (now (line .exit)) ⌝ }
+{
+    let code = code_of(refusal);
+    let named = say_name(line, at, b"/Shape/Data length/Entry/Scale/Plan length/Row off scale/Broken/Cost off scale/Multiplier count/Multiplier/Column off scale/Underpriced/Gap off scale/Board/Frame", code.number as usize);
+    let parted = say(line, named, b": ");
+    let placed = say_body(line, parted, data, scale, plan, multipliers, refusal);
+    say(line, placed, b"\n")
+}
+
+// An acceptance: what the cost and the gap say.
+fn say_accepted(line: &mut [u8; ROOM], at: usize, scale: u32, cost: u64, gap: u64) -> usize
+    requires { ⌜ Started (now line) at ⌝ }
+    ensures { λ r. ⌜ Said (now (line .entry)) at (acceptedWords scale cost gap) r (now (line .exit)) ⌝ }
+{
+    let scaled = say_with(line, at, b"Accepted: at scale ", scale as u64);
+    let costed = say_with(line, scaled, b" the plan costs ", cost);
+    let bound = say_with(line, costed, b" and no other plan costs less by more than ", gap);
+    say(line, bound, b", in millionths of a money unit\n")
+}
+
+fn say_sentence(line: &mut [u8; ROOM], at: usize, data: &[u32], scale: u32, plan: &[u32], multipliers: &[i64], answer: Certificate) -> usize
+    requires { ⌜ Started (now line) at × AskedOf (now «data») (now plan) (now multipliers) answer ⌝ }
+    ensures { λ r. ⌜ Said (now (line .entry)) at (sentence (now («data» .entry)) scale (now (plan .entry)) (now (multipliers .entry)) answer) r (now (line .exit)) ⌝ }
+{
+    match answer {
+        Certificate::Issued(cost, gap) => say_accepted(line, at, scale, cost, gap),
+        Certificate::Withheld(refusal) => say_refusal(line, at, data, scale, plan, multipliers, refusal),
+    }
+}
+
+// The line that certify prints.
+fn say_line(line: &mut [u8; ROOM], at: usize, answer: Certificate) -> usize
+    requires { ⌜ Started (now line) at ⌝ }
+    ensures { λ r. ⌜ Said (now (line .entry)) at (lineOf answer) r (now (line .exit)) ⌝ }
+{
+    let mut printed = [0u8; 64];
+    let count = answer_line(answer, &mut printed);
+    say(line, at, &printed[0..count])
+}
+
+// An answer: its line, and its sentence.
+fn say_answer(line: &mut [u8; ROOM], data: &[u32], scale: u32, plan: &[u32], multipliers: &[i64], answer: Certificate) -> usize
+    requires { ⌜ Started (now line) 0 × AskedOf (now «data») (now plan) (now multipliers) answer ⌝ }
+    ensures { λ r. ⌜ Said (now (line .entry)) 0 (answerWords (now («data» .entry)) scale (now (plan .entry)) (now (multipliers .entry)) answer) r (now (line .exit)) ⌝ }
+{
+    let answered = say_line(line, 0, answer);
+    say_sentence(line, answered, data, scale, plan, multipliers, answer)
+}
+
+// Certify's answer to data, N, plan and multipliers.
+fn explain_lists(line: &mut [u8; ROOM], data: &[u32], scale: u32, plan: &[u32], multipliers: &[i64]) -> usize
+    requires { ⌜ Started (now line) 0 ⌝ }
+    ensures { λ r. ⌜ Said (now (line .entry)) 0 (certifiedWords (now («data» .entry)) scale (now (plan .entry)) (now (multipliers .entry))) r (now (line .exit)) ⌝ }
+{
+    let answer = certify(data, scale, plan, multipliers);
+    say_answer(line, data, scale, plan, multipliers, answer)
+}
+
+// The same of the numbers that the buffers hold.
+fn explain_buffers(line: &mut [u8; ROOM], used: Used, data: &[u32], plan: &[u32], scal: &[u32], dual: &[i64]) -> usize
+    requires { ⌜ Started (now line) 0 × (Room (now «data») (now plan) (now scal) (now dual) × Within used) ⌝ }
+    ensures { λ r. ⌜ Said (now (line .entry)) 0 (explanationOf (whole (listsIn used (now («data» .entry)) (now (plan .entry)) (now (scal .entry)) (now (dual .entry))))) r (now (line .exit)) ⌝ }
+{
+    let d = used.data;
+    let p = used.plan;
+    let s = used.scal;
+    let m = used.dual;
+    explain_lists(line, &data[0..d], scale_in(&scal[0..s]), &plan[0..p], &dual[0..m])
+}
+
+// The answer to a whole text, and what it means. A Frame comes before every other refusal.
+pub fn explain_text(input: &[u8]) -> Explanation
+    ensures { λ r. ⌜ Explains (now (input .entry)) r ⌝ }
+{
+    let mut data = [0u32; MOST_DATA];
+    let mut plan = [0u32; MOST_PLAN];
+    let mut scal = [0u32; MOST_SCAL];
+    let mut dual = [0i64; MOST_DUAL];
+    let mut bytes = [0u8; ROOM];
+    match read_text(input, &mut data, &mut plan, &mut scal, &mut dual) {
+        Reading::FrameAt(number) => {
+            let frame = Certificate::Withheld(Refusal::Frame(number));
+            let used = say_answer(&mut bytes, &data[0..0], 1, &plan[0..0], &dual[0..0], frame);
+            Explanation { bytes, used }
+        }
+        Reading::Whole(read) => {
+            let used = explain_buffers(&mut bytes, read, &data, &plan, &scal, &dual);
+            Explanation { bytes, used }
+        }
+    }
+}

@@ -1,0 +1,52 @@
+use mathlib.Core.Path.{sym}
+use Rattle.model.specs.Columns.{columnBoxes}
+use Rattle.tables.proofs.Passed.{passed-long, sound-head}
+use Rattle.epm.proofs.Laws.{counts-sound, counts-read}
+use Rattle.writer.proofs.Laws.{said-joined, said-same}
+use Rattle.places.specs.Numbers.{indexOf}
+use Rattle.figures.proofs.Laws.{counted-alike}
+use Rattle.sentences.proofs.Laws.{below-alike, underpriced-is}
+use borrow.Author.Needs.{needs}
+use Rattle.sentences.proofs.column_words.say_underpriced.Statement.{statement}
+use Rattle.sentences.proofs.column_words.say_underpriced.Tie as tie
+
+counts-of-requires : tie.Need-counts-of-requires
+counts-of-requires c κs = passed-long _ (sound-head _ (c .before .pre .1 .0))
+
+column-place-requires : tie.Need-column-place-requires
+column-place-requires c κs = let a = c .before .before in let counts = c .counts-of .ensures in (counts-sound _ (a .pre .1 .0) counts, below-alike columnBoxes (counts-read _ counts) (a .pre .1 .1 .1))
+
+column-figures-requires : tie.Need-column-figures-requires
+column-figures-requires c κs = let a = c .before .before .before in (a .pre .1 .0, (a .pre .1 .1 .0, counted-alike columnBoxes (indexOf (c .column-place .result)) (sym (counts-read _ (c .before .counts-of .ensures))) (c .column-place .ensures .0)))
+
+say-column-requires : tie.Need-say-column-requires
+say-column-requires c κs = let a = c .before .before .before .before .before in (search needs, (counts-sound _ (a .pre .1 .0) (c .before .before .before .counts-of .ensures), c .before .before .column-place .ensures .0))
+
+say-priced-requires : tie.Need-say-priced-requires
+say-priced-requires c κs = search needs
+
+slice-aggregate-say : tie.Need-slice-aggregate-say
+slice-aggregate-say c = search needs
+
+say-requires : tie.Need-say-requires
+say-requires c κs = search needs
+
+say-balance-requires : tie.Need-say-balance-requires
+say-balance-requires c κs = search needs
+
+returns : tie.Need-returns
+returns c = let a = c .before .before .before .before .before .before .before .before .before .before .before .before .before .args in said-same (underpriced-is (a .«data» .now) (c .before .before .before .before .before .before .before .before .before .before .before .counts-of .ensures) (a .column) (c .before .before .before .before .before .before .before .before .before .before .column-place .ensures) (a .multipliers .now) (c .before .before .before .before .before .before .before .before .before .column-figures .ensures .0)) (said-joined (c .before .before .before .before .before .before .before .say-column .ensures) (said-joined (c .before .before .before .before .before .say-priced .ensures) (said-joined (c .before .before .say .ensures) (c .say-balance .ensures))))
+
+pub say-underpriced-spec : {M : Type 1} → statement M
+say-underpriced-spec =
+    tie.close
+    (tie.spec
+    counts-of-requires
+    column-place-requires
+    column-figures-requires
+    say-column-requires
+    say-priced-requires
+    slice-aggregate-say
+    say-requires
+    say-balance-requires
+    returns)

@@ -1,0 +1,50 @@
+use mathlib.Core.Path.{sym}
+use Rattle.model.specs.Data.{read}
+use Rattle.model.specs.Columns.{entries}
+use Rattle.model.specs.Families.{rowBoxes}
+use Rattle.tables.proofs.Passed.{passed-long, sound-head}
+use Rattle.epm.proofs.Laws.{counts-sound, counts-read}
+use Rattle.writer.proofs.Laws.{said-joined, said-same}
+use Rattle.places.specs.Numbers.{indexOf}
+use Rattle.figures.proofs.Laws.{row-inside, counted-alike}
+use Rattle.sentences.proofs.Laws.{below-alike, broken-is}
+use borrow.Author.Needs.{needs}
+use Rattle.sentences.proofs.row_words.say_broken.Statement.{statement}
+use Rattle.sentences.proofs.row_words.say_broken.Tie as tie
+
+counts-of-requires : tie.Need-counts-of-requires
+counts-of-requires c κs = passed-long _ (sound-head _ (c .before .before .pre .1 .0))
+
+row-place-requires : tie.Need-row-place-requires
+row-place-requires c κs = let a = c .before .before .before in let counts = c .counts-of .ensures in (counts-sound _ (a .pre .1 .0) counts, below-alike rowBoxes (counts-read _ counts) (a .pre .1 .1 .1))
+
+family-at-requires : tie.Need-family-at-requires
+family-at-requires c κs = row-inside (c .before .counts-of .result) (c .row-place .ensures .0) .0
+
+row-figures-requires : tie.Need-row-figures-requires
+row-figures-requires c κs = let a = c .before .before .before .before .before in (a .pre .1 .0, (a .pre .1 .1 .0, counted-alike rowBoxes (indexOf (c .before .row-place .result)) (sym (counts-read _ (c .before .before .counts-of .ensures))) (c .before .row-place .ensures .0)))
+
+say-row-requires : tie.Need-say-row-requires
+say-row-requires c κs = let a = c .before .before .before .before .before .before .before in (search needs, (counts-sound _ (a .pre .1 .0) (c .before .before .before .before .counts-of .ensures), c .before .before .before .row-place .ensures .0))
+
+say-sums-requires : tie.Need-say-sums-requires
+say-sums-requires c κs = search needs
+
+say-rule-requires : tie.Need-say-rule-requires
+say-rule-requires c κs = search needs
+
+returns : tie.Need-returns
+returns c = let a = c .before .before .before .before .before .before .before .before .before .before .before .before .args in said-same (broken-is (a .«data» .now) (c .before .before .before .before .before .before .before .before .before .counts-of .ensures) (a .row) (c .before .before .before .before .before .before .before .before .row-place .ensures) (a .scale) (entries (read (a .«data» .now)) (a .plan .now)) (c .before .before .before .before .before .before .row-figures .ensures) (c .before .before .before .before .before .before .before .family-at .ensures)) (said-joined (c .before .before .before .before .say-row .ensures) (said-joined (c .before .before .say-sums .ensures) (c .say-rule .ensures)))
+
+pub say-broken-spec : {M : Type 1} → statement M
+say-broken-spec =
+    tie.close
+    (tie.spec
+    counts-of-requires
+    row-place-requires
+    family-at-requires
+    row-figures-requires
+    say-row-requires
+    say-sums-requires
+    say-rule-requires
+    returns)

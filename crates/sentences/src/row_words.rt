@@ -1,0 +1,115 @@
+// Rows in words.
+use crate::amounts::say_amount;
+use crate::amounts::say_signed;
+use index_words::say_place;
+use duals::multiplier_in;
+use figures::RowFigures;
+use figures::row_figures;
+use model::Counts;
+use places::Place;
+use places::row_place;
+use tables::sets::family_at;
+use tables::tests::counts_of;
+use writer::ROOM;
+use writer::say;
+use writer::say_name;
+use writer::say_with;
+ghost use Rattle.sums.specs.Index.{Member};
+ghost use Rattle.model.specs.Data.{read};
+ghost use Rattle.model.specs.Columns.{entries};
+ghost use Rattle.model.specs.Families.{rowBoxes};
+ghost use Rattle.tables.specs.Layout.{Counted};
+ghost use Rattle.writer.specs.Writing.{Started, Said};
+ghost use Rattle.places.specs.Numbers.{indexOf};
+ghost use Rattle.sentences.specs.Asked.{OfRow, OfMultiplier};
+ghost use Rattle.sentences.specs.Sentences.{rowWords, sumsWords, ruleWords, multiplierRule, offScaleWords, brokenWords, multiplierWords};
+
+// A row's number, equation with its name, and indices.
+fn say_row(line: &mut [u8; ROOM], at: usize, c: Counts, row: usize, p: Place) -> usize
+    requires { ⌜ Started (now line) at × (Counted c × Member (rowBoxes c) (indexOf p)) ⌝ }
+    ensures { λ r. ⌜ Said (now (line .entry)) at (rowWords c row (indexOf p)) r (now (line .exit)) ⌝ }
+{
+    let family = p.kind;
+    let f = family_at(family);
+    let numbered = say_with(line, at, b"row ", row as u64);
+    let equation = say_with(line, numbered, b", equation (", f.equation as u64);
+    let closed = say(line, equation, b") ");
+    let named = say_name(line, closed, b"demand balance/transfer limit/spinning reserve/planning reserve/output and reserve/reserve offer/ramp down/ramp up/minimum load/availability/VRE profile/capacity balance/capacity outside its years/build and retirement by kind/new capacity/yearly build/fuel/capital/zone emissions/system emissions", family);
+    say_place(line, named, c, f.set, p)
+}
+
+// What a row's terms of each sign come to.
+fn say_sums(line: &mut [u8; ROOM], at: usize, sums: RowFigures) -> usize
+    requires { ⌜ Started (now line) at ⌝ }
+    ensures { λ r. ⌜ Said (now (line .entry)) at (sumsWords sums) r (now (line .exit)) ⌝ }
+{
+    let above = sums.above;
+    let below = sums.below;
+    let first = say(line, at, b": its positive terms come to ");
+    let positive = say_amount(line, first, above);
+    let second = say(line, positive, b", its negative terms to ");
+    say_amount(line, second, below)
+}
+
+// When a row holds.
+fn say_rule(line: &mut [u8; ROOM], at: usize, equal: bool) -> usize
+    requires { ⌜ Started (now line) at ⌝ }
+    ensures { λ r. ⌜ Said (now (line .entry)) at (ruleWords equal) r (now (line .exit)) ⌝ }
+{
+    if equal {
+        return say(line, at, b", and the two must be equal");
+    }
+    say(line, at, b", and the first must not be less")
+}
+
+// What a multiplier may be.
+fn say_multiplier_rule(line: &mut [u8; ROOM], at: usize, equal: bool) -> usize
+    requires { ⌜ Started (now line) at ⌝ }
+    ensures { λ r. ⌜ Said (now (line .entry)) at (multiplierRule equal) r (now (line .exit)) ⌝ }
+{
+    if equal {
+        return say(line, at, b" and must be from -2^40 to 2^40");
+    }
+    say(line, at, b" and must be from 0 to 2^40")
+}
+
+// A row of which a sum is too large.
+pub fn say_off_scale(line: &mut [u8; ROOM], at: usize, data: &[u32], scale: u32, plan: &[u32], row: usize) -> usize
+    requires { ⌜ Started (now line) at × OfRow (now «data») (now plan) row ⌝ }
+    ensures { λ r. ⌜ Said (now (line .entry)) at (offScaleWords (read (now («data» .entry))) scale (entries (read (now («data» .entry))) (now (plan .entry))) row) r (now (line .exit)) ⌝ }
+{
+    let c = counts_of(data);
+    let p = row_place(c, row);
+    let sums = row_figures(data, scale, plan, p);
+    let placed = say_row(line, at, c, row, p);
+    let summed = say_sums(line, placed, sums);
+    say(line, summed, b", and neither may be more than 2^62 - 1")
+}
+
+// A row that fails.
+pub fn say_broken(line: &mut [u8; ROOM], at: usize, data: &[u32], scale: u32, plan: &[u32], row: usize) -> usize
+    requires { ⌜ Started (now line) at × OfRow (now «data») (now plan) row ⌝ }
+    ensures { λ r. ⌜ Said (now (line .entry)) at (brokenWords (read (now («data» .entry))) scale (entries (read (now («data» .entry))) (now (plan .entry))) row) r (now (line .exit)) ⌝ }
+{
+    let c = counts_of(data);
+    let p = row_place(c, row);
+    let f = family_at(p.kind);
+    let sums = row_figures(data, scale, plan, p);
+    let placed = say_row(line, at, c, row, p);
+    let summed = say_sums(line, placed, sums);
+    say_rule(line, summed, f.equal)
+}
+
+// A row whose multiplier is out of range.
+pub fn say_multiplier(line: &mut [u8; ROOM], at: usize, data: &[u32], multipliers: &[i64], row: usize) -> usize
+    requires { ⌜ Started (now line) at × OfMultiplier (now «data») (now multipliers) row ⌝ }
+    ensures { λ r. ⌜ Said (now (line .entry)) at (multiplierWords (read (now («data» .entry))) (now (multipliers .entry)) row) r (now (line .exit)) ⌝ }
+{
+    let c = counts_of(data);
+    let p = row_place(c, row);
+    let f = family_at(p.kind);
+    let placed = say_row(line, at, c, row, p);
+    let is = say(line, placed, b": it is ");
+    let signed = say_signed(line, is, multiplier_in(multipliers, row));
+    say_multiplier_rule(line, signed, f.equal)
+}
