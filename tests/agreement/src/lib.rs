@@ -1,4 +1,4 @@
-//! The proved calls of the static library, the proved program, and the comparison
+//! The proved calls of the static library, the proved programs, and the comparison
 //! of their answers with the second implementation's.
 
 mod calls;
@@ -9,6 +9,6 @@ mod verdict;
 
 pub use calls::{certify, check, post};
 pub use compare::{measure, Agreement};
-pub use program::{measure_program, program, run_in_pieces, run_program, ProgramAgreement};
+pub use program::{measure_program, Program, ProgramAgreement};
 pub use rivals::measure_rivals;
 pub use verdict::{seeds, verdict};

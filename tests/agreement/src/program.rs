@@ -1,58 +1,104 @@
-//! The proved certify program against the second implementation.
+//! The proved programs certify and explain against the second implementation.
 
 use epm_reference::coverage::text;
+use epm_reference::explain;
+use epm_reference::generator::anything::{any_contents, steep};
 use epm_reference::generator::bytes::{one_byte_damages, Labelled};
+use epm_reference::generator::draft::Case;
 use epm_reference::generator::frames::{self, LINE_DAMAGES};
 use epm_reference::generator::large::{larger_than_any_buffer, largest_accepted, of_lengths};
 use epm_reference::generator::random::Random;
 use epm_reference::generator::stations::stations;
-use epm_reference::generator::{case, extremes};
+use epm_reference::generator::{case, extremes, multiplier_edges, range_edges, twice_damaged_case};
 use epm_reference::met::{absent, Met};
 use epm_reference::program::{answer, answer_line, read_lines};
+use epm_reference::refusal::{
+    BROKEN, COLUMN_OFF_SCALE, ENTRY, MULTIPLIER, ROW_OFF_SCALE, UNDERPRICED,
+};
 use std::collections::BTreeMap;
 use std::fmt;
 use std::io::{self, Write};
+use std::path::Path;
 use std::process::{Command, Stdio};
 use std::thread;
 
-/// What `rt check certify` and `rt ci` leave.
-const PROGRAM: &str = concat!(env!("CARGO_MANIFEST_DIR"), "/../../target/bin/certify");
+/// What `rt check certify explain` and `rt ci` leave.
+const PROGRAMS: &str = concat!(env!("CARGO_MANIFEST_DIR"), "/../../target/bin");
 
-/// The bytes of standard input that the program keeps (`crates/certify`).
+/// The bytes of standard input that a program keeps (`crates/standard_input`).
 const BUFFER: usize = 180_224;
 
-/// Refusals that the program can give, by number.
+/// Refusals that the programs can give, by number: all but that of the board.
 const REFUSALS: [u32; 14] = [1, 2, 3, 4, 5, 6, 7, 8, 9, 10, 11, 12, 13, 15];
 
-/// The program over a standard input, its standard output and error kept.
-pub fn program(input: Stdio) -> Command {
-    let mut command = Command::new(PROGRAM);
-    command
-        .stdin(input)
-        .stdout(Stdio::piped())
-        .stderr(Stdio::piped());
-    command
+/// Refusals whose place is a row, a column or an entry.
+const PLACED: [u32; 6] = [
+    ENTRY,
+    ROW_OFF_SCALE,
+    BROKEN,
+    MULTIPLIER,
+    COLUMN_OFF_SCALE,
+    UNDERPRICED,
+];
+
+/// The proved programs.
+#[derive(Clone, Copy, Debug, PartialEq, Eq)]
+pub enum Program {
+    Certify,
+    Explain,
 }
 
-/// What the program prints for an input that it is handed in the given pieces.
-pub fn run_in_pieces(pieces: &[&[u8]]) -> io::Result<String> {
-    let mut child = program(Stdio::piped()).spawn()?;
-    let mut input = child.stdin.take().expect("a pipe");
-    // The program writes less than a pipe holds, and reads its input to the end, so
-    // neither waits for the other.
-    let written = pieces.iter().try_for_each(|piece| input.write_all(piece));
-    drop(input);
-    let output = child.wait_with_output()?;
-    written?;
-    if !output.status.success() || !output.stderr.is_empty() {
-        return Err(io::Error::other(format!("{output:?}")));
+impl Program {
+    fn name(self) -> &'static str {
+        match self {
+            Program::Certify => "certify",
+            Program::Explain => "explain",
+        }
     }
-    String::from_utf8(output.stdout).map_err(io::Error::other)
+
+    /// The program over a standard input, its standard output and error kept.
+    pub fn over(self, input: Stdio) -> Command {
+        let mut command = Command::new(Path::new(PROGRAMS).join(self.name()));
+        command
+            .stdin(input)
+            .stdout(Stdio::piped())
+            .stderr(Stdio::piped());
+        command
+    }
+
+    /// What the program prints for an input that it is handed in the given pieces.
+    pub fn run_in_pieces(self, pieces: &[&[u8]]) -> io::Result<String> {
+        let mut child = self.over(Stdio::piped()).spawn()?;
+        let mut input = child.stdin.take().expect("a pipe");
+        // The program writes less than a pipe holds, and reads its input to the end, so
+        // neither waits for the other.
+        let written = pieces.iter().try_for_each(|piece| input.write_all(piece));
+        drop(input);
+        let output = child.wait_with_output()?;
+        written?;
+        if !output.status.success() || !output.stderr.is_empty() {
+            return Err(io::Error::other(format!("{output:?}")));
+        }
+        String::from_utf8(output.stdout).map_err(io::Error::other)
+    }
+
+    /// What the program prints for an input.
+    pub fn run(self, input: &[u8]) -> io::Result<String> {
+        self.run_in_pieces(&[input])
+    }
 }
 
-/// What the program prints for an input.
-pub fn run_program(input: &[u8]) -> io::Result<String> {
-    run_in_pieces(&[input])
+/// What the two programs print for one input.
+struct Printed {
+    certify: io::Result<String>,
+    explain: io::Result<String>,
+}
+
+fn printed(input: &[u8]) -> Printed {
+    Printed {
+        certify: Program::Certify.run(input),
+        explain: Program::Explain.run(input),
+    }
 }
 
 /// What was met, and where the two differed.
@@ -63,13 +109,18 @@ pub struct ProgramAgreement {
     pub larger_than_buffer: u64,
     /// Inputs by the way they were made.
     pub labels: BTreeMap<String, u64>,
+    /// Refusals that certify gave.
     pub met: Met,
+    /// Refusals that explain said in the words expected.
+    pub explained: Met,
     pub differences: Vec<String>,
 }
 
 /// The texts of seeds 0..inputs, half of them damaged, and a quarter as many put
-/// together at random; the cases at the limit of the sums; the ten stations, and
-/// one of them byte by byte; the largest inputs and larger ones.
+/// together at random; cases with two faults, of any content and with steep
+/// multipliers; entries and multipliers at the ends of their ranges; the cases at
+/// the limit of the sums; the ten stations, and one of them byte by byte; the
+/// largest inputs and larger ones.
 pub fn measure_program(inputs: u64) -> ProgramAgreement {
     let mut texts: Vec<Labelled> = vec![];
     for seed in 0..inputs {
@@ -81,9 +132,20 @@ pub fn measure_program(inputs: u64) -> ProgramAgreement {
     for _ in 0..inputs / 4 {
         texts.push(("noise".to_string(), frames::noise(&mut random)));
     }
+    for _ in 0..inputs / 10 {
+        texts.extend(plain("two faults", &twice_damaged_case(&mut random)));
+        texts.extend(plain("any contents", &any_contents(&mut random)));
+        texts.extend(plain("steep", &steep(&mut random)));
+    }
+    for seed in 0..inputs / 200 {
+        let entries = range_edges(seed);
+        let multipliers = multiplier_edges(seed);
+        texts.extend(entries.iter().flat_map(|case| plain("entry edge", case)));
+        let edges = multipliers.iter();
+        texts.extend(edges.flat_map(|case| plain("multiplier edge", case)));
+    }
     for extreme in extremes::all() {
-        let lines = frames::plain_lines(&extreme.case, 64);
-        texts.push(("sums about their limit".to_string(), frames::join(&lines)));
+        texts.extend(plain("sums about their limit", &extreme.case));
     }
     for station in stations() {
         texts.push(("one-plant station".to_string(), station.text()));
@@ -98,15 +160,21 @@ pub fn measure_program(inputs: u64) -> ProgramAgreement {
     agreement
 }
 
+/// A case as plain lines, where it is small enough for the programs.
+fn plain(label: &str, case: &Case) -> Option<Labelled> {
+    let text = || frames::join(&frames::plain_lines(case, 64));
+    frames::fits(case).then(|| (label.to_string(), text()))
+}
+
 impl ProgramAgreement {
-    /// The program on each input, as many at a time as there are processors.
+    /// The programs on each input, as many at a time as there are processors.
     pub fn compare(&mut self, inputs: &[Labelled]) {
         let workers = thread::available_parallelism().map_or(1, usize::from);
         let part = inputs.len().div_ceil(workers).max(1);
-        let run = |inputs: &[Labelled]| -> Vec<io::Result<String>> {
-            inputs.iter().map(|(_, bytes)| run_program(bytes)).collect()
+        let run = |inputs: &[Labelled]| -> Vec<Printed> {
+            inputs.iter().map(|(_, bytes)| printed(bytes)).collect()
         };
-        let answers: Vec<io::Result<String>> = thread::scope(|scope| {
+        let answers: Vec<Printed> = thread::scope(|scope| {
             let parts: Vec<_> = inputs
                 .chunks(part)
                 .map(|part| scope.spawn(move || run(part)))
@@ -114,28 +182,60 @@ impl ProgramAgreement {
             let join = |part: thread::ScopedJoinHandle<'_, _>| part.join().expect("a worker");
             parts.into_iter().flat_map(join).collect()
         });
-        for ((label, bytes), answer) in inputs.iter().zip(answers) {
-            self.count(label, bytes, answer);
+        for ((label, bytes), printed) in inputs.iter().zip(answers) {
+            self.count(label, bytes, printed);
         }
     }
 
-    fn count(&mut self, label: &str, input: &[u8], answered: io::Result<String>) {
+    fn count(&mut self, label: &str, input: &[u8], printed: Printed) {
         self.inputs += 1;
         *self.labels.entry(label.to_string()).or_default() += 1;
         self.larger_than_buffer += u64::from(input.len() > BUFFER);
+        let differences = self.differences.len();
+        self.hold_explain(label, input, &printed);
+        let explained = self.differences.len() == differences;
         let expected = answer(input);
         match expected {
             Ok(_) => self.accepted += 1,
             Err(refusal) => {
                 let read = read_lines(input).unwrap_or_default();
                 self.met.count(&read.data, refusal);
+                if explained {
+                    self.explained.count(&read.data, refusal);
+                }
             }
         }
         let line = answer_line(expected);
-        if !answered.as_ref().is_ok_and(|answered| *answered == line) {
+        self.hold(label, Program::Certify, input, &printed.certify, &line);
+    }
+
+    /// The two lines of explain, and the first of them beside that of certify, whatever
+    /// the second implementation says.
+    fn hold_explain(&mut self, label: &str, input: &[u8], printed: &Printed) {
+        let lines = String::from_utf8(explain(input)).expect("ASCII");
+        self.hold(label, Program::Explain, input, &printed.explain, &lines);
+        if let (Ok(line), Ok(lines)) = (&printed.certify, &printed.explain) {
+            if lines.split_inclusive('\n').next() != Some(line) {
+                self.differences.push(format!(
+                    "{label}: certify wrote {line:?}, explain {lines:?}"
+                ));
+            }
+        }
+    }
+
+    fn hold(
+        &mut self,
+        label: &str,
+        program: Program,
+        input: &[u8],
+        printed: &io::Result<String>,
+        expected: &str,
+    ) {
+        if !printed.as_ref().is_ok_and(|printed| printed == expected) {
+            let name = program.name();
             let start = String::from_utf8_lossy(&input[..input.len().min(120)]).into_owned();
             self.differences.push(format!(
-                "{label}: the program wrote {answered:?}, expected {line:?}, on {start:?}.."
+                "{label}: {name} wrote {printed:?}, expected {expected:?}, on {start:?}.."
             ));
         }
     }
@@ -154,6 +254,9 @@ impl ProgramAgreement {
             (self.larger_than_buffer, "an input larger than the buffer"),
         ]));
         failures.extend(missing.iter().map(|word| format!("not met: {word}")));
+        let mut unsaid = self.explained.missing(&REFUSALS);
+        unsaid.extend(self.explained.missing_places(&PLACED));
+        failures.extend(unsaid.iter().map(|word| format!("not explained: {word}")));
         failures
     }
 }
@@ -162,13 +265,23 @@ impl fmt::Display for ProgramAgreement {
     fn fmt(&self, f: &mut fmt::Formatter<'_>) -> fmt::Result {
         writeln!(
             f,
-            "the program on {} inputs: {} accepted, {} larger than its buffer, {} differences",
+            "certify and explain on {} inputs: {} accepted, {} larger than the buffer, {} differences",
             self.inputs,
             self.accepted,
             self.larger_than_buffer,
             self.differences.len()
         )?;
         write!(f, "{}", self.met.table(&REFUSALS))?;
+        writeln!(f, "explained: {}", self.explained.line(&REFUSALS))?;
+        let named = [
+            (BROKEN, "families"),
+            (UNDERPRICED, "tables of columns"),
+            (ENTRY, "tables of the data that have a range"),
+        ];
+        for (number, words) in named {
+            let (met, of) = self.explained.named(number);
+            writeln!(f, "  {met} of {of} {words} named by refusal {number}")?;
+        }
         writeln!(f, "inputs by the way they were made:")?;
         for (label, count) in &self.labels {
             writeln!(f, "  {label:32} {count:7}")?;

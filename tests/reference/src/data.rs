@@ -230,18 +230,23 @@ pub fn read_shape(list: &[u32]) -> Result<Shape, Refusal> {
 impl<'a> Data<'a> {
     /// The tests of refusals 2, 1, 2 and 3, in that order.
     pub fn read(list: &'a [u32]) -> Result<Data<'a>, Refusal> {
+        let data = Data::laid_out(list)?;
+        data.test_entries()?;
+        Ok(data)
+    }
+
+    /// The tests of refusals 2, 1 and 2; the entries may be out of range.
+    pub fn laid_out(list: &'a [u32]) -> Result<Data<'a>, Refusal> {
         let shape = read_shape(list)?;
         let layout = DataLayout::new(shape);
         if list.len() != layout.length() {
             return Err(Refusal::at(DATA_LENGTH, layout.length()));
         }
-        let data = Data {
+        Ok(Data {
             shape,
             layout,
             list,
-        };
-        data.test_entries()?;
-        Ok(data)
+        })
     }
 
     fn test_entries(&self) -> Result<(), Refusal> {
@@ -249,7 +254,8 @@ impl<'a> Data<'a> {
             for place in 0..self.shape.size(entry.axes) {
                 let indices = self.shape.indices(entry.axes, place);
                 let index = self.layout.index(entry.table, &indices);
-                if !self.in_range(entry.range, &indices, self.list[index]) {
+                let (least, most) = self.limits(entry.range, &indices);
+                if self.list[index] < least || self.list[index] > most {
                     return Err(Refusal::at(ENTRY, index));
                 }
             }
@@ -257,21 +263,27 @@ impl<'a> Data<'a> {
         Ok(())
     }
 
-    /// The kind table lies before the tables whose ranges depend on it, so it
-    /// has been tested when they are.
-    fn in_range(&self, range: Range, indices: &[usize], value: u32) -> bool {
+    /// The least and the most that an entry may be. The kind table lies before the
+    /// tables whose ranges depend on it, so it has been tested when they are.
+    pub fn limits(&self, range: Range, indices: &[usize]) -> (u32, u32) {
         let years = self.shape.years as u32;
+        let zero_if = |zero: bool| if zero { (0, 0) } else { (0, u32::MAX) };
         match range {
-            Range::Any => true,
-            Range::Within(least, largest) => least <= value && value <= largest,
-            Range::BelowZones => (value as usize) < self.shape.zones,
-            Range::BelowFuels => (value as usize) < self.shape.fuels,
-            Range::ZeroForCandidate => !self.is_candidate(indices[0]) || value == 0,
-            Range::ZeroForExisting => self.is_candidate(indices[0]) || value == 0,
-            Range::YearByKind if self.is_candidate(indices[0]) => 1 <= value && value <= years,
-            Range::YearByKind => 2 <= value && value <= years + 1,
-            Range::ZeroWithinZone => indices[1] != indices[2] || value == 0,
+            Range::Any => (0, u32::MAX),
+            Range::Within(least, most) => (least, most),
+            Range::BelowZones => (0, self.shape.zones as u32 - 1),
+            Range::BelowFuels => (0, self.shape.fuels as u32 - 1),
+            Range::ZeroForCandidate => zero_if(self.is_candidate(indices[0])),
+            Range::ZeroForExisting => zero_if(!self.is_candidate(indices[0])),
+            Range::YearByKind if self.is_candidate(indices[0]) => (1, years),
+            Range::YearByKind => (2, years + 1),
+            Range::ZeroWithinZone => zero_if(indices[1] == indices[2]),
         }
+    }
+
+    /// The table and indices at an index of the list past the counts.
+    pub fn locate(&self, index: usize) -> Option<(Table, Vec<usize>)> {
+        self.layout.locate(index)
     }
 
     /// An entry, wide enough for every product of document 01.

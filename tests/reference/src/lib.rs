@@ -7,7 +7,7 @@
 //! fit.
 //!
 //! The law is in `shape`, `data`, `columns`, `rows`, `prices`, `sums`,
-//! `calls`, `program` and `rival`. The inputs for the tests come from
+//! `calls`, `program` and `rival`; `explain` says an answer in words. The inputs for the tests come from
 //! `generator`; `coverage` counts which answers those inputs reach,
 //! `rival_count` the rivals that certificates are held to.
 
@@ -15,6 +15,7 @@ pub mod calls;
 pub mod columns;
 pub mod coverage;
 pub mod data;
+pub mod explain;
 pub mod generator;
 pub mod met;
 pub mod model;
@@ -29,5 +30,6 @@ pub mod sums;
 pub mod wide;
 
 pub use calls::{certify, check, post};
+pub use explain::explain;
 pub use program::run;
 pub use refusal::Refusal;

@@ -1,10 +1,10 @@
 //! Which refusals a run of inputs met, and where: a row by its family, a column
-//! by its table.
+//! or an entry by its table.
 
 use crate::columns::{Column, ColumnLayout, COLUMNS};
-use crate::data::read_shape;
+use crate::data::{read_shape, DataLayout, Range, TABLES};
 use crate::refusal::{
-    Refusal, BROKEN, COLUMN_OFF_SCALE, MULTIPLIER, ROW_OFF_SCALE, UNDERPRICED, WORDS,
+    Refusal, BROKEN, COLUMN_OFF_SCALE, ENTRY, MULTIPLIER, ROW_OFF_SCALE, UNDERPRICED, WORDS,
 };
 use crate::rows::{RowLayout, FAMILIES, FAMILY_COUNT};
 use std::collections::BTreeMap;
@@ -18,11 +18,17 @@ pub struct Met {
     places: BTreeMap<(u32, String), u64>,
 }
 
-/// The names of what a refusal's place may be: families, tables of columns, or
-/// nothing where the place is neither a row nor a column. Of the rows and columns
-/// only these can pass 2^62 − 1 with entries of 32 bits.
+/// The names of what a refusal's place may be: families, tables of columns, tables
+/// of the data, or nothing where the place is none of these. Of the rows and columns
+/// only these can pass 2^62 − 1 with entries of 32 bits; of the tables of the data
+/// those without a range cannot be refused.
 fn names(number: u32) -> Vec<String> {
     match number {
+        ENTRY => TABLES
+            .iter()
+            .filter(|entry| entry.range != Range::Any)
+            .map(|entry| entry.name.to_string())
+            .collect(),
         ROW_OFF_SCALE => (17..=19).map(family_name).collect(),
         BROKEN | MULTIPLIER => (1..=FAMILY_COUNT).map(family_name).collect(),
         COLUMN_OFF_SCALE => [Column::Cap, Column::Gen].map(table_name).into(),
@@ -53,8 +59,12 @@ impl Met {
     pub fn count(&mut self, data: &[u32], refusal: Refusal) {
         *self.refusals.entry(refusal.number).or_default() += 1;
         let place = refusal.place as usize;
-        let shape = || read_shape(data).expect("rows and columns come after the counts");
+        let shape = || read_shape(data).expect("places come after the counts");
         let name = match refusal.number {
+            ENTRY => {
+                let (table, _) = DataLayout::new(shape()).locate(place).expect("an entry");
+                TABLES[table as usize].name.to_string()
+            }
             ROW_OFF_SCALE | BROKEN | MULTIPLIER => {
                 family_name(RowLayout::new(shape()).family(place).expect("a row"))
             }
@@ -94,6 +104,13 @@ impl Met {
             missing.extend(absent.map(|name| format!("refusal {number}, {name}")));
         }
         missing
+    }
+
+    /// How many of the families or tables of a refusal were met, and how many there are.
+    pub fn named(&self, number: u32) -> (usize, usize) {
+        let names = names(number);
+        let met = names.iter().filter(|name| self.places(number, name) > 0);
+        (met.count(), names.len())
     }
 
     /// The counts of these refusals on one line.

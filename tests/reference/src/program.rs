@@ -37,8 +37,7 @@ pub fn answer_line(answer: Result<(u64, u64), Refusal>) -> String {
 /// tested, so a Frame comes before every other refusal.
 pub fn answer(input: &[u8]) -> Result<(u64, u64), Refusal> {
     let read = read_lines(input)?;
-    let scale = read.scale.unwrap_or(SCALE_WHEN_ABSENT);
-    certify(&read.data, scale, &read.plan, &read.multipliers)
+    certify(&read.data, read.scale(), &read.plan, &read.multipliers)
 }
 
 /// The lines joined by word, or the first line that is a Frame.
@@ -57,6 +56,10 @@ pub fn read_lines(input: &[u8]) -> Result<Input, Refusal> {
 }
 
 impl Input {
+    pub fn scale(&self) -> u32 {
+        self.scale.unwrap_or(SCALE_WHEN_ABSENT)
+    }
+
     /// Joins a line given without its line feed; `None` when it is not a line of
     /// the program or takes a total past its limit.
     fn join(&mut self, line: &[u8]) -> Option<()> {

@@ -1,7 +1,7 @@
-//! Prints how many inputs of the certify program met each refusal and how they were
-//! made, and where the program and the second implementation differ; exit status
-//! 1 where they do, or where something was not met. The number of seeds may be
-//! given.
+//! Prints how many inputs of the programs certify and explain met each refusal and
+//! how they were made, what was explained, and where a program and the second
+//! implementation differ; exit status 1 where they do, or where something was not
+//! met. The number of seeds may be given.
 
 use epm_agreement::{measure_program, seeds, verdict};
 use std::process::ExitCode;

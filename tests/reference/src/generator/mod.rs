@@ -30,9 +30,10 @@ pub mod stations;
 
 use crate::calls::LARGEST_MULTIPLIER;
 use crate::columns::COLUMNS;
+use crate::data::TABLES;
 use crate::rows::FAMILIES;
 use crate::shape::Shape;
-use damage::{damage, Damage, Expected};
+use damage::{damage, entry_edges, Damage, Expected};
 use draft::{Case, Draft};
 use random::Random;
 
@@ -169,6 +170,37 @@ pub fn multiplier_edges(seed: u64) -> Vec<Case> {
             let mut case = sound.case.clone();
             case.multipliers[row] = edge;
             cases.push(case);
+        }
+    }
+    cases
+}
+
+/// A sound case with one entry of each table in turn at the ends of its range and
+/// just past them. A table that this case cannot pass is left out: GenCap without a
+/// candidate, MaxNewCap without an existing plant, those without a range.
+pub fn range_edges(seed: u64) -> Vec<Case> {
+    let mut random = Random::new(seed);
+    let shape = shape(&mut random);
+    let sound = sound_draft(&mut random, shape);
+    let mut cases = vec![];
+    for entry in &TABLES {
+        let mut places = vec![];
+        for place in 0..shape.size(entry.axes) {
+            let indices = shape.indices(entry.axes, place);
+            if !entry_edges(&sound, entry.range, &indices).is_empty() {
+                places.push(indices);
+            }
+        }
+        if places.is_empty() {
+            continue;
+        }
+        let indices = random.pick(&places);
+        for (inside, outside) in entry_edges(&sound, entry.range, indices) {
+            for value in [inside, outside] {
+                let mut case = sound.case.clone();
+                case.data[sound.layout.index(entry.table, indices)] = value;
+                cases.push(case);
+            }
         }
     }
     cases

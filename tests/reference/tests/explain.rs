@@ -1,0 +1,249 @@
+//! The explain program's sentences, written out by hand.
+
+use epm_reference::coverage::text;
+use epm_reference::data::{DataLayout, Table};
+use epm_reference::explain;
+use epm_reference::generator::draft::Case;
+use epm_reference::generator::frames::{join, plain_lines};
+use epm_reference::generator::stations::stations;
+use epm_reference::generator::{case, sound_case};
+use epm_reference::rows::RowLayout;
+use epm_reference::run;
+use epm_reference::shape::Shape;
+
+/// The bytes that the program has room for (`crates/explain`).
+const ROOM: usize = 1024;
+
+/// The two lines for a text.
+fn explained(text: &[u8]) -> String {
+    String::from_utf8(explain(text)).expect("ASCII")
+}
+
+/// The two lines for a case.
+fn said(case: &Case) -> String {
+    explained(&join(&plain_lines(case, 64)))
+}
+
+/// The first station with a change.
+fn station(change: impl FnOnce(&mut Case)) -> String {
+    let mut case = stations()[0].case();
+    change(&mut case);
+    said(&case)
+}
+
+/// Two zones, plants, fuels, seasons and days, three hours, two years.
+const SHAPE: [usize; 7] = [2, 2, 2, 2, 2, 3, 2];
+
+/// Season 2, day 1, hour 3 of that shape, counted from 0.
+const SLICE: usize = 8;
+
+/// A sound case of that shape with one entry of the data changed.
+fn with_entry(table: Table, indices: &[usize], value: u32) -> String {
+    let shape = Shape::new(SHAPE);
+    let mut case = sound_case(shape, 1);
+    case.data[DataLayout::new(shape).index(table, indices)] = value;
+    said(&case)
+}
+
+/// A sound case of that shape with the multiplier of one row −1.
+fn with_multiplier(family: usize, indices: &[usize]) -> String {
+    let shape = Shape::new(SHAPE);
+    let mut case = sound_case(shape, 1);
+    case.multipliers[RowLayout::new(shape).index(family, indices)] = -1;
+    said(&case)
+}
+
+/// The sentence without the line of certify and the words before the table's or
+/// the equation's name.
+fn from<'a>(lines: &'a str, name: &str) -> &'a str {
+    let sentence = lines.lines().nth(1).expect("two lines");
+    &sentence[sentence.find(name).expect(name)..]
+}
+
+#[test]
+fn the_refused_stations() {
+    let lines = stations().map(|station| explained(&station.text()));
+    assert_eq!(lines[3], "R 12 3\nUnderpriced: column 3, gen, year 1, plant 1, season 1, day 1, hour 1: its terms m*a come to 5000001000 above zero and 0 below, its price is 5000000000, so it is underpriced by 1000\n");
+    assert_eq!(lines[6], "R 7 0\nBroken: row 0, equation (14) demand balance, year 1, zone 1, season 1, day 1, hour 1: its positive terms come to 7999, its negative terms to 8000, and the two must be equal\n");
+    assert_eq!(lines[8], "R 7 4\nBroken: row 4, equation (22) output and reserve, year 1, plant 1, season 1, day 1, hour 1: its positive terms come to 10000, its negative terms to 11000, and the first must not be less\n");
+    assert_eq!(lines[9], "R 7 11\nBroken: row 11, equation (34) capacity balance, year 1, plant 1: its positive terms come to 11, its negative terms to 10, and the two must be equal\n");
+}
+
+#[test]
+fn the_accepted_stations() {
+    let lines = stations().map(|station| explained(&station.text()));
+    assert_eq!(lines[0], "A 40000000000 0\nAccepted: at scale 1 the plan costs 40000000000 and no other plan costs less by more than 0, in millionths of a money unit\n");
+    assert_eq!(lines[4], "A 80000000000 0\nAccepted: at scale 2 the plan costs 80000000000 and no other plan costs less by more than 0, in millionths of a money unit\n");
+    for (station, lines) in stations().iter().zip(lines) {
+        let accepted = lines.contains("\nAccepted: ");
+        assert_eq!(accepted, station.certified.is_ok(), "{lines}");
+    }
+}
+
+#[test]
+fn refusals_of_the_data() {
+    assert_eq!(
+        station(|case| case.data[0] = 9),
+        "R 1 0\nShape: entry 0 of DATA, the number of zones: it is 9 and must be from 1 to 8\n"
+    );
+    assert_eq!(
+        station(|case| case.data[6] = 0),
+        "R 1 6\nShape: entry 6 of DATA, the number of years: it is 0 and must be from 1 to 10\n"
+    );
+    assert_eq!(
+        station(|case| case.data.truncate(48)),
+        "R 2 49\nData length: DATA has 48 numbers and must have 49\n"
+    );
+    assert_eq!(
+        explained(b""),
+        "R 2 7\nData length: DATA has 0 numbers and must have 7\n"
+    );
+    assert_eq!(
+        station(|case| case.data[8] = 21),
+        "R 3 8\nEntry: entry 8 of DATA, V, year 1: it is 21 and must be from 1 to 20\n"
+    );
+}
+
+#[test]
+fn refusals_of_the_plan() {
+    assert_eq!(
+        station(|case| case.scale = 1001),
+        "R 4 0\nScale: N: it is 1001 and must be from 1 to 1000\n"
+    );
+    assert_eq!(
+        station(|case| case.plan.truncate(9)),
+        "R 5 10\nPlan length: PLAN has 9 numbers and must have 10\n"
+    );
+    // N·10^9·MaxCapital of the capital row; the entries before it are N times the station's.
+    let off_scale = station(|case| {
+        case.scale = 1000;
+        case.plan[0] = 10_000;
+        case.plan[3] = 8_000;
+        case.data[48] = u32::MAX;
+    });
+    assert_eq!(off_scale, "R 6 17\nRow off scale: row 17, equation (64) capital: its positive terms come to more than 2^62 - 1, its negative terms to 0, and neither may be more than 2^62 - 1\n");
+    // All demand unmet at scale 2, at 10^5·(2^32 − 1) a kW.
+    let dear = station(|case| {
+        case.scale = 2;
+        case.plan = vec![20, 0, 0, 0, 0, 0, 16_000, 0, 0, 0];
+        case.data[43] = u32::MAX;
+    });
+    assert_eq!(
+        dear,
+        "R 8 0\nCost off scale: the cost is more than 2^62 - 1\n"
+    );
+}
+
+#[test]
+fn refusals_of_the_multipliers() {
+    assert_eq!(
+        station(|case| case.multipliers.truncate(19)),
+        "R 9 20\nMultiplier count: DUAL has 19 numbers and must have 20\n"
+    );
+    assert_eq!(station(|case| case.multipliers[0] = i64::MIN), "R 10 0\nMultiplier: row 0, equation (14) demand balance, year 1, zone 1, season 1, day 1, hour 1: it is -9223372036854775808 and must be from -2^40 to 2^40\n");
+    assert_eq!(station(|case| case.multipliers[11] = (1 << 40) + 1), "R 10 11\nMultiplier: row 11, equation (34) capacity balance, year 1, plant 1: it is 1099511627777 and must be from -2^40 to 2^40\n");
+    assert_eq!(
+        station(|case| case.multipliers[17] = -1),
+        "R 10 17\nMultiplier: row 17, equation (64) capital: it is -1 and must be from 0 to 2^40\n"
+    );
+    // Availability·Dur = 8,784,000 times 2^40.
+    let off_scale = station(|case| {
+        case.data[9] = 8784;
+        case.multipliers[9] = 1 << 40;
+    });
+    assert_eq!(off_scale, "R 11 0\nColumn off scale: column 0, cap, year 1, plant 1: its terms m*a come to more than 2^62 - 1 above zero and 0 below, its price is 0, and neither sum of terms may be more than 2^62 - 1\n");
+    // 10^4·10^9·MaxCapital; no plant is a candidate, so no column has the capital row.
+    let far = station(|case| {
+        case.data[48] = 1_000_000;
+        case.multipliers[17] = 10_000;
+    });
+    assert_eq!(
+        far,
+        "R 13 0\nGap off scale: a sum of the terms N*m*k is more than 2^62 - 1\n"
+    );
+}
+
+#[test]
+fn a_frame_is_told_by_its_line() {
+    let mut text = stations()[0].text();
+    text.extend(b"DATA\n");
+    assert_eq!(explained(&text), "R 15 4\nFrame: line 4 of the input is not a line of DATA, PLAN, SCAL or DUAL as document 01 has them, or brings more numbers than may come\n");
+}
+
+#[test]
+fn indices_of_entries() {
+    let lines = with_entry(Table::Tl, &[1, 1, 1, 1], 5);
+    assert_eq!(
+        from(&lines, "TL"),
+        "TL, year 2, zone 2, to zone 2, season 2: it is 5 and must be from 0 to 0"
+    );
+    let lines = with_entry(Table::Profile, &[1, SLICE], 1001);
+    assert_eq!(
+        from(&lines, "Profile"),
+        "Profile, plant 2, season 2, day 1, hour 3: it is 1001 and must be from 0 to 1000"
+    );
+    let lines = with_entry(Table::MinimumLoadDay, &[1, 0], 2);
+    assert_eq!(
+        from(&lines, "minimum"),
+        "minimum-load day, season 2, day 1: it is 2 and must be from 0 to 1"
+    );
+    let lines = with_entry(Table::Availability, &[0, 1], u32::MAX);
+    assert_eq!(
+        from(&lines, "Avail"),
+        "Availability, plant 1, season 2: it is 4294967295 and must be from 0 to 1000"
+    );
+    let lines = with_entry(Table::Loss, &[0, 1, 0], 1001);
+    assert_eq!(
+        from(&lines, "Loss"),
+        "Loss, year 1, zone 2, to zone 1: it is 1001 and must be from 0 to 1000"
+    );
+    let lines = with_entry(Table::Zone, &[1], 2);
+    assert_eq!(
+        from(&lines, "zone"),
+        "zone, plant 2: it is 2 and must be from 0 to 1"
+    );
+    let lines = with_entry(Table::Err, &[], 1001);
+    assert_eq!(
+        from(&lines, "Err"),
+        "Err: it is 1001 and must be from 0 to 1000"
+    );
+}
+
+#[test]
+fn indices_of_rows() {
+    let lines = with_multiplier(2, &[1, 0, 1, SLICE]);
+    assert_eq!(
+        from(&lines, "equation"),
+        "equation (15) transfer limit, year 2, zone 1, to zone 2, season 2, day 1, hour 3: it is -1 and must be from 0 to 2^40"
+    );
+    let lines = with_multiplier(10, &[0, 1, 1]);
+    assert_eq!(
+        from(&lines, "equation"),
+        "equation (27) availability, year 1, plant 2, season 2: it is -1 and must be from 0 to 2^40"
+    );
+    let lines = with_multiplier(17, &[1, 0, 1]);
+    assert_eq!(
+        from(&lines, "equation"),
+        "equation (62) fuel, year 2, zone 1, fuel 2: it is -1 and must be from 0 to 2^40"
+    );
+    let lines = with_multiplier(20, &[1]);
+    assert_eq!(
+        from(&lines, "equation"),
+        "equation (68) system emissions, year 2: it is -1 and must be from 0 to 2^40"
+    );
+}
+
+/// The line of certify comes first, and the program has room for both.
+#[test]
+fn two_lines_for_every_input() {
+    for seed in 0..500 {
+        let Some(text) = text(seed, &case(seed).case) else {
+            continue;
+        };
+        let lines = explained(&text.bytes);
+        assert!(lines.starts_with(&run(&text.bytes)), "seed {seed}: {lines}");
+        assert_eq!(lines.lines().count(), 2, "seed {seed}: {lines}");
+        assert!(lines.is_ascii() && lines.ends_with('\n'), "seed {seed}");
+        assert!(lines.len() < ROOM, "seed {seed}: {lines}");
+    }
+}
