@@ -6,14 +6,17 @@ use lib.IntN.{ℤ, pos}
 use lib.ListN.{getD}
 use Rattle.sums.specs.declared.Box.{Box}
 use Rattle.sums.specs.Index.{Index, count, Member}
+use Rattle.sums.specs.Span.{fine}
 use Rattle.model.specs.declared.Counts.{Counts}
 use Rattle.model.specs.declared.Family.{Family}
 use Rattle.model.specs.Data.{tableBoxes, countsOf, placeOf, read}
 use Rattle.model.specs.Columns.{columnBoxes}
 use Rattle.model.specs.Families.{familyOf, familyIn, rowBoxes}
+use Rattle.model.specs.Tests.{dataFault}
+use Rattle.tables.specs.Layout.{Counted}
 use Rattle.duals.specs.declared.Multiplier.{Multiplier}
 use Rattle.duals.specs.Multipliers.{multiplierOf}
-use Rattle.epm.proofs.Laws.{counts-read}
+use Rattle.epm.proofs.Laws.{counts-sound, counts-read}
 use Rattle.texts.specs.Claims.{bytes}
 use Rattle.places.specs.declared.Place.{Place}
 use Rattle.places.specs.Numbers.{indexOf, Numbered, memberAt}
@@ -24,9 +27,10 @@ use Rattle.figures.specs.declared.EntryFigures.{EntryFigures}
 use Rattle.figures.specs.Figures.{rowFigures, columnFigures, entryFigures}
 use Rattle.sentences.specs.Sentences.{balanceWords, signedWords, rowWords, sumsWords, ruleWords, multiplierRule, offScaleWords, brokenWords, multiplierWords, columnWords, entryWords, pricedWords, figureWords, columnOffScaleWords, underpricedWords, outOfRangeWords}
 
--- the same number at the counts that the code holds
-pub below-alike : (boxes : Counts → List Box) {n : ℕ} {c d : Counts} → d ≡ c → n < count (boxes d) → n < count (boxes c)
-below-alike boxes {n} e h = subst (λ (d : Counts). n < count (boxes d)) e h
+-- data that passed the tests has counts, and a number that there is at the data's counts is one at those that the code holds
+pub numbered-asked : (l : List ℕ) {c : Counts} → dataFault l ≡ fine → c ≡ countsOf l → (boxes : Counts → List Box) {n : ℕ} → n < count (boxes (read l .counts))
+    → Counted c × (n < count (boxes c))
+numbered-asked l s e boxes {n} h = (counts-sound l s e, subst (λ (d : Counts). n < count (boxes d)) (counts-read l e) h)
 
 -- Sentences: what the code said, piece by piece, is the definition's. c are the data's counts, p the place of the number n.
 

@@ -8,7 +8,9 @@ certify-requires : tie.Need-certify-requires
 certify-requires c κs = search needs
 
 say-answer-requires : tie.Need-say-answer-requires
-say-answer-requires c κs = let a = c .before .before .before .before .args in (search needs, answered (a .«data» .now) (a .scale) (a .plan .now) (a .multipliers .now) (c .before .certify .result) (c .before .certify .ensures .0))
+say-answer-requires c κs =
+    let a = c .before .before .before .before .args in
+    (search needs, answered (a .«data» .now) (a .scale) (a .plan .now) (a .multipliers .now) (c .before .certify .result) (c .before .certify .ensures .0))
 
 returns : tie.Need-returns
 unfolding certifiedWords

@@ -30,7 +30,11 @@ say-requires c κs = search needs
 
 returns : tie.Need-returns
 unfolding acceptedWords
-returns c = said-joined (c .before .before .before .before .before .before .before .before .before .say-with .ensures) (said-joined (c .before .before .before .before .before .before .say-with2 .ensures) (said-joined (c .before .before .before .say-with3 .ensures) (c .say .ensures)))
+returns c =
+    said-joined (c .before .before .before .before .before .before .before .before .before .say-with .ensures)
+    (said-joined (c .before .before .before .before .before .before .say-with2 .ensures)
+    (said-joined (c .before .before .before .say-with3 .ensures)
+    (c .say .ensures)))
 
 pub say-accepted-spec : {M : Type 1} → statement M
 say-accepted-spec =

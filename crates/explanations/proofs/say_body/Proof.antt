@@ -22,7 +22,8 @@ enum-known-refusal-3 : tie.Need-enum-known-refusal-3
 enum-known-refusal-3 c = search needs
 
 say-out-of-range-requires : tie.Need-say-out-of-range-requires
-say-out-of-range-requires c κs = (search needs, rw (c .before .before .refusal3 .given .1) at (c .before .before .before .before .before .before .pre .1))
+say-out-of-range-requires c κs =
+    (search needs, rw (c .before .before .refusal3 .given .1) at (c .before .before .before .before .before .before .pre .1))
 
 enum-told : tie.Need-enum-told
 enum-told c = search needs
@@ -43,7 +44,8 @@ enum-known-refusal-5 : tie.Need-enum-known-refusal-5
 enum-known-refusal-5 c = search needs
 
 say-off-scale-requires : tie.Need-say-off-scale-requires
-say-off-scale-requires c κs = (search needs, rw (c .before .before .refusal5 .given .1) at (c .before .before .before .before .before .before .pre .1))
+say-off-scale-requires c κs =
+    (search needs, rw (c .before .before .refusal5 .given .1) at (c .before .before .before .before .before .before .pre .1))
 
 enum-known-refusal-6 : tie.Need-enum-known-refusal-6
 enum-known-refusal-6 c = search needs
@@ -73,19 +75,22 @@ enum-known-refusal-8 : tie.Need-enum-known-refusal-8
 enum-known-refusal-8 c = search needs
 
 say-multiplier-requires : tie.Need-say-multiplier-requires
-say-multiplier-requires c κs = (search needs, rw (c .before .before .refusal8 .given .1) at (c .before .before .before .before .before .before .pre .1))
+say-multiplier-requires c κs =
+    (search needs, rw (c .before .before .refusal8 .given .1) at (c .before .before .before .before .before .before .pre .1))
 
 enum-known-refusal-9 : tie.Need-enum-known-refusal-9
 enum-known-refusal-9 c = search needs
 
 say-column-off-scale-requires : tie.Need-say-column-off-scale-requires
-say-column-off-scale-requires c κs = (search needs, rw (c .before .before .refusal9 .given .1) at (c .before .before .before .before .before .before .pre .1))
+say-column-off-scale-requires c κs =
+    (search needs, rw (c .before .before .refusal9 .given .1) at (c .before .before .before .before .before .before .pre .1))
 
 enum-known-refusal-10 : tie.Need-enum-known-refusal-10
 enum-known-refusal-10 c = search needs
 
 say-underpriced-requires : tie.Need-say-underpriced-requires
-say-underpriced-requires c κs = (search needs, rw (c .before .before .refusal10 .given .1) at (c .before .before .before .before .before .before .pre .1))
+say-underpriced-requires c κs =
+    (search needs, rw (c .before .before .refusal10 .given .1) at (c .before .before .before .before .before .before .pre .1))
 
 enum-told-3 : tie.Need-enum-told-3
 enum-told-3 c = search needs

@@ -20,7 +20,10 @@ say-requires : tie.Need-say-requires
 say-requires c κs = search needs
 
 returns : tie.Need-returns
-returns c = said-same (line-first (c .before .before .before .before .before .before .args .answer) (c .before .before .before .before .answer-line .ensures)) (c .say .ensures)
+returns c =
+    said-same
+    (line-first (c .before .before .before .before .before .before .args .answer) (c .before .before .before .before .answer-line .ensures))
+    (c .say .ensures)
 
 pub say-line-spec : {M : Type 1} → statement M
 say-line-spec =

@@ -33,7 +33,12 @@ say-requires-2 c κs = search needs
 
 returns : tie.Need-returns
 unfolding refusedWords
-returns c = rw (← c .before .before .before .before .before .before .before .before .before .before .before .before .code-of .ensures) (said-joined (c .before .before .before .before .before .before .before .before .say-name .ensures) (said-joined (c .before .before .before .before .before .say .ensures) (said-joined (c .before .before .before .say-body .ensures) (c .say2 .ensures))))
+returns c =
+    rw (← c .before .before .before .before .before .before .before .before .before .before .before .before .code-of .ensures)
+    (said-joined (c .before .before .before .before .before .before .before .before .say-name .ensures)
+    (said-joined (c .before .before .before .before .before .say .ensures)
+    (said-joined (c .before .before .before .say-body .ensures)
+    (c .say2 .ensures))))
 
 pub say-refusal-spec : {M : Type 1} → statement M
 say-refusal-spec =

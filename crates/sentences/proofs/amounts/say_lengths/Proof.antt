@@ -21,7 +21,10 @@ say-with-requires-2 c κs = search needs
 
 returns : tie.Need-returns
 unfolding lengthWords
-returns c = said-joined (c .before .before .before .before .before .before .say .ensures) (said-joined (c .before .before .before .say-with .ensures) (c .say-with2 .ensures))
+returns c =
+    said-joined (c .before .before .before .before .before .before .say .ensures)
+    (said-joined (c .before .before .before .say-with .ensures)
+    (c .say-with2 .ensures))
 
 pub say-lengths-spec : {M : Type 1} → statement M
 say-lengths-spec =

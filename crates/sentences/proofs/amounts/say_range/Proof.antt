@@ -24,7 +24,10 @@ say-with-requires-3 c κs = search needs
 
 returns : tie.Need-returns
 unfolding rangeWords
-returns c = said-joined (c .before .before .before .before .before .before .say-with .ensures) (said-joined (c .before .before .before .say-with2 .ensures) (c .say-with3 .ensures))
+returns c =
+    said-joined (c .before .before .before .before .before .before .say-with .ensures)
+    (said-joined (c .before .before .before .say-with2 .ensures)
+    (c .say-with3 .ensures))
 
 pub say-range-spec : {M : Type 1} → statement M
 say-range-spec =

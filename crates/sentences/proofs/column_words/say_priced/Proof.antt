@@ -33,7 +33,13 @@ say-amount-requires-3 c κs = search needs
 
 returns : tie.Need-returns
 unfolding pricedWords
-returns c = said-joined (c .before .before .before .before .before .before .before .before .before .before .before .before .say .ensures) (said-joined (c .before .before .before .before .before .before .before .before .before .before .say-amount .ensures) (said-joined (c .before .before .before .before .before .before .before .say2 .ensures) (said-joined (c .before .before .before .before .before .say-amount2 .ensures) (said-joined (c .before .before .say3 .ensures) (c .say-amount3 .ensures)))))
+returns c =
+    said-joined (c .before .before .before .before .before .before .before .before .before .before .before .before .say .ensures)
+    (said-joined (c .before .before .before .before .before .before .before .before .before .before .say-amount .ensures)
+    (said-joined (c .before .before .before .before .before .before .before .say2 .ensures)
+    (said-joined (c .before .before .before .before .before .say-amount2 .ensures)
+    (said-joined (c .before .before .say3 .ensures)
+    (c .say-amount3 .ensures)))))
 
 pub say-priced-spec : {M : Type 1} → statement M
 say-priced-spec =

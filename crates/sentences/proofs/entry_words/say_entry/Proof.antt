@@ -30,11 +30,18 @@ say-name-requires : tie.Need-say-name-requires
 say-name-requires c κs = search needs
 
 say-place-requires : tie.Need-say-place-requires
-say-place-requires c κs = let a = c .before .before .before .before .before .before .before .before .before .before .before in (search needs, (a .pre .1 .0, low-inside (a .pre .1 .0) (getD tableSets (a .args .p .kind) 0) (a .args .p) (entry-inside (a .args .c) (a .pre .1 .1) .1)))
+say-place-requires c κs =
+    let a = c .before .before .before .before .before .before .before .before .before .before .before in
+    (search needs, (a .pre .1 .0, low-inside (a .pre .1 .0) (getD tableSets (a .args .p .kind) 0) (a .args .p) (entry-inside (a .args .c) (a .pre .1 .1) .1)))
 
 returns : tie.Need-returns
 unfolding entryWords
-returns c = rw (← c .before .before .before .before .before .before .before .before .before .before .before .table-set .ensures) (said-joined (c .before .before .before .before .before .before .before .before .say-with .ensures) (said-joined (c .before .before .before .before .before .say .ensures) (said-joined (c .before .before .say-name .ensures) (c .say-place .ensures))))
+returns c =
+    rw (← c .before .before .before .before .before .before .before .before .before .before .before .table-set .ensures)
+    (said-joined (c .before .before .before .before .before .before .before .before .say-with .ensures)
+    (said-joined (c .before .before .before .before .before .say .ensures)
+    (said-joined (c .before .before .say-name .ensures)
+    (c .say-place .ensures))))
 
 pub say-entry-spec : {M : Type 1} → statement M
 say-entry-spec =

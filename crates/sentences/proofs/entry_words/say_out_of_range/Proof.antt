@@ -14,19 +14,34 @@ counts-of-requires : tie.Need-counts-of-requires
 counts-of-requires c κs = passed-long _ (c .before .pre .1 .0)
 
 entry-place-requires : tie.Need-entry-place-requires
-entry-place-requires c κs = let a = c .before .before in (rw (c .counts-of .ensures) (passed-counts _ (a .pre .1 .0)), (a .pre .1 .1 .0, rw (← counts-read (a .args .«data» .now) (c .counts-of .ensures)) (a .pre .1 .1 .1)))
+entry-place-requires c κs =
+    let a = c .before .before in
+    (rw (c .counts-of .ensures) (passed-counts _ (a .pre .1 .0)), (a .pre .1 .1 .0, rw (← counts-read (a .args .«data» .now) (c .counts-of .ensures)) (a .pre .1 .1 .1)))
 
 entry-figures-requires : tie.Need-entry-figures-requires
-entry-figures-requires c κs = let a = c .before .before .before in let same = sym (counts-read _ (c .before .counts-of .ensures)) in (a .pre .1 .0, (counted-alike tableBoxes (indexOf (c .entry-place .result)) same (c .entry-place .ensures .0), rw (← same) (c .entry-place .ensures .1)))
+entry-figures-requires c κs =
+    let a = c .before .before .before in
+    let same = sym (counts-read _ (c .before .counts-of .ensures)) in
+    (a .pre .1 .0, (counted-alike tableBoxes (indexOf (c .entry-place .result)) same (c .entry-place .ensures .0), rw (← same) (c .entry-place .ensures .1)))
 
 say-entry-requires : tie.Need-say-entry-requires
-say-entry-requires c κs = let a = c .before .before .before .before .before in (search needs, (rw (c .before .before .before .counts-of .ensures) (passed-counts _ (a .pre .1 .0)), c .before .before .entry-place .ensures .0))
+say-entry-requires c κs =
+    let a = c .before .before .before .before .before in
+    (search needs, (rw (c .before .before .before .counts-of .ensures) (passed-counts _ (a .pre .1 .0)), c .before .before .entry-place .ensures .0))
 
 say-figures-requires : tie.Need-say-figures-requires
 say-figures-requires c κs = search needs
 
 returns : tie.Need-returns
-returns c = let a = c .before .before .before .before .before .before .before .before .args in said-same (out-of-range-is (a .«data» .now) (c .before .before .before .before .before .before .counts-of .ensures) (a .entry) (c .before .before .before .before .before .entry-place .ensures) (c .before .before .before .before .entry-figures .ensures)) (said-joined (c .before .before .say-entry .ensures) (c .say-figures .ensures))
+returns c =
+    let a = c .before .before .before .before .before .before .before .before .args in
+    let counts = c .before .before .before .before .before .before .counts-of .ensures in
+    let place = c .before .before .before .before .before .entry-place .ensures in
+    let figures = c .before .before .before .before .entry-figures .ensures in
+    said-same
+    (out-of-range-is (a .«data» .now) counts (a .entry) place figures)
+    (said-joined (c .before .before .say-entry .ensures)
+    (c .say-figures .ensures))
 
 pub say-out-of-range-spec : {M : Type 1} → statement M
 say-out-of-range-spec =

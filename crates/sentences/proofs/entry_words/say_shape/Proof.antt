@@ -36,7 +36,12 @@ say-range-requires c κs = search needs
 
 returns : tie.Need-returns
 unfolding shapeWords
-returns c = rw (← c .before .before .before .before .before .before .before .before .before .before .before .before .number-at .ensures, ← c .before .before .before .before .before .before .before .before .before .before .before .most-count .ensures) (said-joined (c .before .before .before .before .before .before .before .before .say-with .ensures) (said-joined (c .before .before .before .before .before .say .ensures) (said-joined (c .before .before .say-name .ensures) (c .say-range .ensures))))
+returns c =
+    rw (← c .before .before .before .before .before .before .before .before .before .before .before .before .number-at .ensures, ← c .before .before .before .before .before .before .before .before .before .before .before .most-count .ensures)
+    (said-joined (c .before .before .before .before .before .before .before .before .say-with .ensures)
+    (said-joined (c .before .before .before .before .before .say .ensures)
+    (said-joined (c .before .before .say-name .ensures)
+    (c .say-range .ensures))))
 
 pub say-shape-spec : {M : Type 1} → statement M
 say-shape-spec =

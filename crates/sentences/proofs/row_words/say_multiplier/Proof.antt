@@ -3,7 +3,7 @@ use Rattle.model.specs.Families.{rowBoxes}
 use Rattle.tables.proofs.Passed.{passed-long, sound-head}
 use Rattle.epm.proofs.Laws.{counts-sound, counts-read}
 use Rattle.writer.proofs.Laws.{said-joined, said-same}
-use Rattle.sentences.proofs.Laws.{below-alike, multiplier-is}
+use Rattle.sentences.proofs.Laws.{numbered-asked, multiplier-is}
 use borrow.Author.Needs.{needs}
 use Rattle.sentences.proofs.row_words.say_multiplier.Statement.{statement}
 use Rattle.sentences.proofs.row_words.say_multiplier.Tie as tie
@@ -12,13 +12,17 @@ counts-of-requires : tie.Need-counts-of-requires
 counts-of-requires c κs = passed-long _ (sound-head _ (c .before .pre .1 .0))
 
 row-place-requires : tie.Need-row-place-requires
-row-place-requires c κs = let a = c .before .before in let counts = c .counts-of .ensures in (counts-sound _ (a .pre .1 .0) counts, below-alike rowBoxes (counts-read _ counts) (a .pre .1 .1 .1))
+row-place-requires c κs =
+    let a = c .before .before in
+    numbered-asked _ (a .pre .1 .0) (c .counts-of .ensures) rowBoxes (a .pre .1 .1 .1)
 
 family-at-requires : tie.Need-family-at-requires
 family-at-requires c κs = row-inside (c .before .counts-of .result) (c .row-place .ensures .0) .0
 
 say-row-requires : tie.Need-say-row-requires
-say-row-requires c κs = let a = c .before .before .before .before .before in (search needs, (counts-sound _ (a .pre .1 .0) (c .before .before .before .counts-of .ensures), c .before .before .row-place .ensures .0))
+say-row-requires c κs =
+    let a = c .before .before .before .before .before in
+    (search needs, (counts-sound _ (a .pre .1 .0) (c .before .before .before .counts-of .ensures), c .before .before .row-place .ensures .0))
 
 slice-aggregate-say : tie.Need-slice-aggregate-say
 slice-aggregate-say c = search needs
@@ -36,7 +40,18 @@ say-multiplier-rule-requires : tie.Need-say-multiplier-rule-requires
 say-multiplier-rule-requires c κs = search needs
 
 returns : tie.Need-returns
-returns c = let a = c .before .before .before .before .before .before .before .before .before .before .before .before .before .before .args in said-same (multiplier-is (a .«data» .now) (c .before .before .before .before .before .before .before .before .before .before .before .before .counts-of .ensures) (a .row) (c .before .before .before .before .before .before .before .before .before .before .before .row-place .ensures) (a .multipliers .now) (c .before .before .before .multiplier-in .ensures) (c .before .before .before .before .before .before .before .before .before .before .family-at .ensures)) (said-joined (c .before .before .before .before .before .before .before .before .say-row .ensures) (said-joined (c .before .before .before .before .before .say .ensures) (said-joined (c .before .before .say-signed .ensures) (c .say-multiplier-rule .ensures))))
+returns c =
+    let a = c .before .before .before .before .before .before .before .before .before .before .before .before .before .before .args in
+    let counts = c .before .before .before .before .before .before .before .before .before .before .before .before .counts-of .ensures in
+    let place = c .before .before .before .before .before .before .before .before .before .before .before .row-place .ensures in
+    let multiplier = c .before .before .before .multiplier-in .ensures in
+    let family = c .before .before .before .before .before .before .before .before .before .before .family-at .ensures in
+    said-same
+    (multiplier-is (a .«data» .now) counts (a .row) place (a .multipliers .now) multiplier family)
+    (said-joined (c .before .before .before .before .before .before .before .before .say-row .ensures)
+    (said-joined (c .before .before .before .before .before .say .ensures)
+    (said-joined (c .before .before .say-signed .ensures)
+    (c .say-multiplier-rule .ensures))))
 
 pub say-multiplier-spec : {M : Type 1} → statement M
 say-multiplier-spec =

@@ -41,12 +41,19 @@ say-name-requires c κs = search needs
 say-place-requires : tie.Need-say-place-requires
 say-place-requires c κs =
     let a = c .before .before .before .before .before .before .before .before .before .before .before .before .before .before .before in
-    let kept = c .before .say-name .ensures .kept ∙ c .before .before .before .before .say .ensures .kept ∙ c .before .before .before .before .before .before .before .say-with2 .ensures .kept ∙ c .before .before .before .before .before .before .before .before .before .before .before .say-with .ensures .kept in
+    let kept = c .before .say-name .ensures .kept ∙ c .before .before .before .before .say .ensures .kept
+        ∙ c .before .before .before .before .before .before .before .say-with2 .ensures .kept ∙ c .before .before .before .before .before .before .before .before .before .before .before .say-with .ensures .kept in
     ((kept ∙ a .pre .0 .0, c .before .say-name .ensures .within), (a .pre .1 .0, low-inside (a .pre .1 .0) (familyOf (a .args .p .kind) .set) (a .args .p) (row-inside (a .args .c) (a .pre .1 .1) .1)))
 
 returns : tie.Need-returns
 unfolding rowWords
-returns c = rw (← c .before .before .before .before .before .before .before .before .before .before .before .before .before .before .before .family-at .ensures) (said-joined (c .before .before .before .before .before .before .before .before .before .before .before .before .say-with .ensures) (said-joined (c .before .before .before .before .before .before .before .before .say-with2 .ensures) (said-joined (c .before .before .before .before .before .say .ensures) (said-joined (c .before .before .say-name .ensures) (c .say-place .ensures)))))
+returns c =
+    rw (← c .before .before .before .before .before .before .before .before .before .before .before .before .before .before .before .family-at .ensures)
+    (said-joined (c .before .before .before .before .before .before .before .before .before .before .before .before .say-with .ensures)
+    (said-joined (c .before .before .before .before .before .before .before .before .say-with2 .ensures)
+    (said-joined (c .before .before .before .before .before .say .ensures)
+    (said-joined (c .before .before .say-name .ensures)
+    (c .say-place .ensures)))))
 
 pub say-row-spec : {M : Type 1} → statement M
 say-row-spec =

@@ -24,7 +24,11 @@ say-amount-requires-2 c κs = search needs
 
 returns : tie.Need-returns
 unfolding sumsWords
-returns c = said-joined (c .before .before .before .before .before .before .before .say .ensures) (said-joined (c .before .before .before .before .before .say-amount .ensures) (said-joined (c .before .before .say2 .ensures) (c .say-amount2 .ensures)))
+returns c =
+    said-joined (c .before .before .before .before .before .before .before .say .ensures)
+    (said-joined (c .before .before .before .before .before .say-amount .ensures)
+    (said-joined (c .before .before .say2 .ensures)
+    (c .say-amount2 .ensures)))
 
 pub say-sums-spec : {M : Type 1} → statement M
 say-sums-spec =
