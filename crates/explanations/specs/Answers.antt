@@ -23,10 +23,11 @@ unfoldable pub frameWords : ℕ → List ℕ
 frameWords n =
     with "line " n ++ bytes " of the input is not a line of DATA, PLAN, SCAL or DUAL as document 01 has them, or brings more numbers than may come"
 
--- an acceptance: cost and gap are in Nths of a millionth of a money unit
+-- an acceptance: cost and gap are N times the millionths of a money unit
 unfoldable pub acceptedWords : ℕ → ℕ → ℕ → List ℕ
 acceptedWords N cost gap =
-    with "Accepted: at scale " N ++ (with " the plan costs " cost ++ (with " and no other plan costs less by more than " gap ++ bytes ", in millionths of a money unit\n"))
+    with "Accepted: the plan costs " cost
+    ++ (with " and no other plan costs less by more than " gap ++ (with ", in millionths of a money unit times the scale " N ++ bytes "\n"))
 
 -- The whole sentence
 

@@ -90,10 +90,10 @@ fn say_accepted(line: &mut [u8; ROOM], at: usize, scale: u32, cost: u64, gap: u6
     requires { ⌜ Started (now line) at ⌝ }
     ensures { λ r. ⌜ Said (now (line .entry)) at (acceptedWords scale cost gap) r (now (line .exit)) ⌝ }
 {
-    let scaled = say_with(line, at, b"Accepted: at scale ", scale as u64);
-    let costed = say_with(line, scaled, b" the plan costs ", cost);
+    let costed = say_with(line, at, b"Accepted: the plan costs ", cost);
     let bound = say_with(line, costed, b" and no other plan costs less by more than ", gap);
-    say(line, bound, b", in millionths of a money unit\n")
+    let scaled = say_with(line, bound, b", in millionths of a money unit times the scale ", scale as u64);
+    say(line, scaled, b"\n")
 }
 
 fn say_sentence(line: &mut [u8; ROOM], at: usize, data: &[u32], scale: u32, plan: &[u32], multipliers: &[i64], answer: Certificate) -> usize

@@ -1,19 +1,19 @@
 -- Rows, columns, entries and figures in words, as bytes. A row, a column and an entry have the number that an answer gives; their indices are counted from 1.
 use mathlib.Core.Bool.{Bool, true, false, cond}
 use mathlib.Core.List.{List, _++_}
-use Prim.Native.Nat.{ℕ, _+_, _-_}
+use Prim.Native.Nat.{ℕ, _-_}
 use Prim.Native.String.{String}
 use lib.Dec.{ltb}
 use lib.IntN.{ℤ, pos}
-use lib.ListN.{length, getD}
+use lib.ListN.{getD}
 use Rattle.capped.specs.declared.Amount.{Amount}
 use Rattle.capped.specs.declared.Amount.the-variants.{Exactly, Above}
 use Rattle.capped.specs.declared.Balance.{Balance}
 use Rattle.capped.specs.declared.Balance.the-variants.{Is, BelowZero, Unsure}
 use Rattle.sums.specs.Index.{Index, index}
 use Rattle.model.specs.declared.Counts.{Counts}
-use Rattle.model.specs.Data.{Data, tableBoxes, mostCounts, read}
-use Rattle.model.specs.Columns.{columnSets, columnBoxes, entries}
+use Rattle.model.specs.Data.{Data, tableBoxes, mostCounts}
+use Rattle.model.specs.Columns.{columnSets, columnBoxes}
 use Rattle.model.specs.Families.{familyOf, familyIn, rowBoxes, equal}
 use Rattle.model.specs.Tests.{mostScale}
 use Rattle.tables.specs.Layout.{tableSets}

@@ -30,8 +30,8 @@ pub fn explain(input: &[u8]) -> Vec<u8> {
 fn sentence(read: &Input, answer: Result<(u64, u64), Refusal>) -> String {
     match answer {
         Ok((cost, gap)) => format!(
-            "Accepted: at scale {} the plan costs {cost} and no other plan costs less by more \
-             than {gap}, in millionths of a money unit\n",
+            "Accepted: the plan costs {cost} and no other plan costs less by more than {gap}, \
+             in millionths of a money unit times the scale {}\n",
             read.scale()
         ),
         Err(refusal) => format!("{}: {}\n", refusal.word(), body(read, refusal)),

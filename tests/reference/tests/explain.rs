@@ -72,8 +72,8 @@ fn the_refused_stations() {
 #[test]
 fn the_accepted_stations() {
     let lines = stations().map(|station| explained(&station.text()));
-    assert_eq!(lines[0], "A 40000000000 0\nAccepted: at scale 1 the plan costs 40000000000 and no other plan costs less by more than 0, in millionths of a money unit\n");
-    assert_eq!(lines[4], "A 80000000000 0\nAccepted: at scale 2 the plan costs 80000000000 and no other plan costs less by more than 0, in millionths of a money unit\n");
+    assert_eq!(lines[0], "A 40000000000 0\nAccepted: the plan costs 40000000000 and no other plan costs less by more than 0, in millionths of a money unit times the scale 1\n");
+    assert_eq!(lines[4], "A 80000000000 0\nAccepted: the plan costs 80000000000 and no other plan costs less by more than 0, in millionths of a money unit times the scale 2\n");
     for (station, lines) in stations().iter().zip(lines) {
         let accepted = lines.contains("\nAccepted: ");
         assert_eq!(accepted, station.certified.is_ok(), "{lines}");
