@@ -13,23 +13,13 @@ use epm_reference::generator::{
 };
 use epm_reference::met::Met;
 use epm_reference::refusal::{
-    Refusal, BROKEN, COLUMN_OFF_SCALE, ENTRY, MULTIPLIER, ROW_OFF_SCALE, UNDERPRICED,
+    Refusal, BROKEN, COLUMN_OFF_SCALE, ENTRY, MULTIPLIER, PLACED, UNDERPRICED,
 };
 use epm_reference::shape::Shape;
 use epm_reference::sums::LIMIT;
 
 /// The refusals that certify can give. Check gives those up to 8.
 const REFUSALS: [u32; 13] = [1, 2, 3, 4, 5, 6, 7, 8, 9, 10, 11, 12, 13];
-
-/// The refusals whose place is in a family or in a table.
-const PLACED: [u32; 6] = [
-    ENTRY,
-    ROW_OFF_SCALE,
-    BROKEN,
-    MULTIPLIER,
-    COLUMN_OFF_SCALE,
-    UNDERPRICED,
-];
 
 /// What was met on inputs where both agree.
 #[derive(Default)]

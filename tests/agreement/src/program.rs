@@ -12,9 +12,7 @@ use epm_reference::generator::stations::stations;
 use epm_reference::generator::{case, extremes, multiplier_edges, range_edges, twice_damaged_case};
 use epm_reference::met::{absent, Met};
 use epm_reference::program::{answer, answer_line, read_lines};
-use epm_reference::refusal::{
-    BROKEN, COLUMN_OFF_SCALE, ENTRY, MULTIPLIER, ROW_OFF_SCALE, UNDERPRICED,
-};
+use epm_reference::refusal::{BROKEN, ENTRY, PLACED, UNDERPRICED};
 use std::collections::BTreeMap;
 use std::fmt;
 use std::io::{self, Write};
@@ -30,16 +28,6 @@ const BUFFER: usize = 180_224;
 
 /// Refusals that the programs can give, by number: all but that of the board.
 const REFUSALS: [u32; 14] = [1, 2, 3, 4, 5, 6, 7, 8, 9, 10, 11, 12, 13, 15];
-
-/// Refusals whose place is a row, a column or an entry.
-const PLACED: [u32; 6] = [
-    ENTRY,
-    ROW_OFF_SCALE,
-    BROKEN,
-    MULTIPLIER,
-    COLUMN_OFF_SCALE,
-    UNDERPRICED,
-];
 
 /// The proved programs.
 #[derive(Clone, Copy, Debug, PartialEq, Eq)]

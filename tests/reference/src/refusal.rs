@@ -25,6 +25,16 @@ pub const GAP_OFF_SCALE: u32 = 13;
 pub const BOARD: u32 = 14;
 pub const FRAME: u32 = 15;
 
+/// The refusals whose place is a row, a column or an entry: one of a family or a table.
+pub const PLACED: [u32; 6] = [
+    ENTRY,
+    ROW_OFF_SCALE,
+    BROKEN,
+    MULTIPLIER,
+    COLUMN_OFF_SCALE,
+    UNDERPRICED,
+];
+
 /// The word of each refusal; refusal `n` is at place `n - 1`.
 pub const WORDS: [&str; 15] = [
     "Shape",
