@@ -21,7 +21,7 @@ refusalNames = bytes "/Shape/Data length/Entry/Scale/Plan length/Row off scale/B
 -- a line that is not of the format
 unfoldable pub frameWords : ℕ → List ℕ
 frameWords n =
-    with "line " n ++ bytes " of the input is not a line of DATA, PLAN, SCAL or DUAL as document 01 has them, or brings more numbers than may come"
+    with "line " n ++ bytes " of the input is not a line of DATA, PLAN, SCAL or DUAL as docs/FORMAT.md has them, or brings more numbers than may come"
 
 -- an acceptance: cost and gap are N times the millionths of a money unit
 unfoldable pub acceptedWords : ℕ → ℕ → ℕ → List ℕ

@@ -46,7 +46,7 @@ fn say_frame(line: &mut [u8; ROOM], at: usize, number: usize) -> usize
     ensures { λ r. ⌜ Said (now (line .entry)) at (frameWords number) r (now (line .exit)) ⌝ }
 {
     let numbered = say_with(line, at, b"line ", number as u64);
-    say(line, numbered, b" of the input is not a line of DATA, PLAN, SCAL or DUAL as document 01 has them, or brings more numbers than may come")
+    say(line, numbered, b" of the input is not a line of DATA, PLAN, SCAL or DUAL as docs/FORMAT.md has them, or brings more numbers than may come")
 }
 
 // The place of a refusal, and its figures.

@@ -56,8 +56,8 @@ fn body(read: &Input, refusal: Refusal) -> String {
         UNDERPRICED => underpriced(read, place),
         GAP_OFF_SCALE => "a sum of the terms N*m*k is more than 2^62 - 1".to_string(),
         FRAME => format!(
-            "line {place} of the input is not a line of DATA, PLAN, SCAL or DUAL as document 01 \
-             has them, or brings more numbers than may come"
+            "line {place} of the input is not a line of DATA, PLAN, SCAL or DUAL as \
+             docs/FORMAT.md has them, or brings more numbers than may come"
         ),
         number => unreachable!("certify does not refuse by {number}"),
     }

@@ -167,7 +167,7 @@ fn refusals_of_the_multipliers() {
 fn a_frame_is_told_by_its_line() {
     let mut text = stations()[0].text();
     text.extend(b"DATA\n");
-    assert_eq!(explained(&text), "R 15 4\nFrame: line 4 of the input is not a line of DATA, PLAN, SCAL or DUAL as document 01 has them, or brings more numbers than may come\n");
+    assert_eq!(explained(&text), "R 15 4\nFrame: line 4 of the input is not a line of DATA, PLAN, SCAL or DUAL as docs/FORMAT.md has them, or brings more numbers than may come\n");
 }
 
 #[test]

@@ -1,14 +1,12 @@
-//! The examples of docs/FORMAT.md, and every answer that the page names.
+//! The examples of docs/FORMAT.md, and the answers that the page names to the first two. Its third
+//! example, two years, is in `rounding.rs`.
 
-use epm_reference::calls::column_loads;
 use epm_reference::columns::{Column, ColumnLayout};
 use epm_reference::data::{DataLayout, Table};
-use epm_reference::generator;
-use epm_reference::model::Model;
 use epm_reference::program::{read_lines, Input};
 use epm_reference::rows::RowLayout;
 use epm_reference::shape::Shape;
-use epm_reference::{certify, check, run, Refusal};
+use epm_reference::{certify, run, Refusal};
 
 const STATION: &[u8] = include_bytes!("../../../examples/station.txt");
 const TWO_ZONES: &[u8] = include_bytes!("../../../examples/two-zones.txt");
@@ -111,101 +109,4 @@ fn the_plan_at_scale_1() {
         }
     };
     assert_eq!(answer(rounded), Ok((12_510_080_000_000, 1_544_040_000_000)));
-}
-
-/// How far Σ m·a of a column is above its price; 0 or less where it is priced well.
-fn excess(model: &Model, multipliers: &[i64], column: Column, indices: &[usize]) -> i64 {
-    let number = model.columns.index(column, indices);
-    (column_loads(model, multipliers)[number].value() - model.price(number)) as i64
-}
-
-/// Raises the multiplier of a row until a column is priced well. `unit` is what the row's
-/// multiplier takes off the column's sum.
-fn raise(m: &mut [i64], model: &Model, family: usize, unit: i64, column: Column, i: &[usize]) {
-    let excess = excess(model, m, column, i).max(0);
-    m[model.rows.index(family, i)] += (excess + unit - 1) / unit;
-}
-
-/// The page's steps for multipliers, in its order.
-fn mend(model: &Model, m: &mut [i64]) {
-    let shape = model.data.shape;
-    let price = |column, i: &[usize]| model.price_of(column, i) as i64;
-    for y in 0..shape.years {
-        for z in 0..shape.zones {
-            let row = model.rows.index(4, &[y, z]);
-            m[row] = m[row].min(price(Column::FirmShort, &[y, z]));
-            for s in 0..shape.slices() {
-                let row = model.rows.index(3, &[y, z, s]);
-                m[row] = m[row].min(price(Column::SpinShort, &[y, z, s]));
-                let row = model.rows.index(1, &[y, z, s]);
-                m[row] = m[row].min(price(Column::Unmet, &[y, z, s]));
-                m[row] = m[row].max(-price(Column::Surplus, &[y, z, s]));
-            }
-        }
-        for g in 0..shape.plants {
-            for s in 0..shape.slices() {
-                raise(m, model, 6, 1000, Column::Reserve, &[y, g, s]);
-                raise(m, model, 5, 1000, Column::Gen, &[y, g, s]);
-            }
-        }
-        for place in 0..shape.zones * shape.zones * shape.slices() {
-            let (z, rest) = (
-                place / (shape.zones * shape.slices()),
-                place % (shape.zones * shape.slices()),
-            );
-            raise(
-                m,
-                model,
-                2,
-                1,
-                Column::Trans,
-                &[y, z, rest / shape.slices(), rest % shape.slices()],
-            );
-        }
-    }
-    for g in 0..shape.plants {
-        for y in (0..shape.years).rev() {
-            let row = model.rows.index(12, &[y, g]);
-            m[row] -= excess(model, m, Column::Cap, &[y, g]);
-            if model.data.is_candidate(g) {
-                raise(m, model, 16, 1, Column::Build, &[y, g]);
-            } else if y > 0 {
-                m[row] = m[row].min(0);
-            }
-        }
-    }
-}
-
-/// Multipliers that are some units off, mended: a column is never underpriced.
-#[test]
-fn mended_multipliers_price_every_column_well() {
-    let mut accepted = 0;
-    for seed in 0..300 {
-        let case = generator::case(seed).case;
-        let Ok(model) = Model::read(&case.data) else {
-            continue;
-        };
-        let checked = check(&case.data, case.scale, &case.plan).is_ok();
-        if !checked || case.multipliers.len() != model.rows.count() || model.rows.count() > 300 {
-            continue;
-        }
-        let mut multipliers = case.multipliers.clone();
-        for (row, m) in multipliers.iter_mut().enumerate() {
-            let noise = (seed as i64 * 31 + row as i64 * 17) % 41 - 20;
-            let equality = matches!(model.rows.family(row), Some(1 | 12));
-            *m = (*m).clamp(-(1 << 36), 1 << 36) + noise;
-            if !equality {
-                *m = (*m).max(0);
-            }
-        }
-        mend(&model, &mut multipliers);
-        match certify(&case.data, case.scale, &case.plan, &multipliers) {
-            Ok(_) => accepted += 1,
-            Err(refusal) => assert!(
-                matches!(refusal.number, 10 | 11 | 13),
-                "seed {seed}: {refusal:?}"
-            ),
-        }
-    }
-    assert!(accepted > 30, "{accepted} cases accepted");
 }

@@ -1,0 +1,399 @@
+//! docs/FORMAT.md, "From a solver": the page's steps from a solver's answer to a
+//! plan in whole Nths and to whole multipliers, in its order and with its
+//! numbers. The worked example (`tests/rounding.rs`) says what each step gains.
+
+use crate::calls::{column_loads, row_value};
+use crate::columns::Column;
+use crate::data::Table;
+use crate::model::{Model, Row};
+use crate::mps::MILLIONTHS;
+
+/// A solver's answer: the entry of each column in the column's own unit, and the
+/// multiplier of each row in millionths of a money unit.
+#[derive(Clone, Debug)]
+pub struct Solution {
+    pub entries: Vec<f64>,
+    pub multipliers: Vec<f64>,
+}
+
+impl Solution {
+    /// The answer of `glpsol -w` to `mps`: lines `i row status value dual` and
+    /// `j column status value dual`, numbered from 1. Columns and rows that the
+    /// model gained since the answer was written are 0.
+    pub fn read(model: &Model, text: &str) -> Solution {
+        let mut solution = Solution {
+            entries: vec![0.0; model.columns.count()],
+            multipliers: vec![0.0; model.rows.count()],
+        };
+        for line in text.lines() {
+            let words: Vec<&str> = line.split_whitespace().collect();
+            let place = || words[1].parse::<usize>().expect("a number from 1") - 1;
+            let figure = |word: usize| words[word].parse::<f64>().expect("a figure");
+            match words.first() {
+                Some(&"i") => solution.multipliers[place()] = figure(4) * MILLIONTHS,
+                Some(&"j") => solution.entries[place()] = figure(3),
+                _ => (),
+            }
+        }
+        solution
+    }
+}
+
+/// How far from a whole number a solver's figure is still meant to be one.
+const NOISE: f64 = 1e-6;
+
+/// A solver's figure as a whole number, downward or upward; never below 0.
+fn whole(figure: f64, upward: bool) -> i128 {
+    let nearest = figure.round();
+    let rounded = if (figure - nearest).abs() < NOISE {
+        nearest
+    } else if upward {
+        figure.ceil()
+    } else {
+        figure.floor()
+    };
+    rounded.max(0.0) as i128
+}
+
+/// A plan as it is rounded, with every row at hand.
+struct Rounding<'m> {
+    model: &'m Model<'m>,
+    scale: u32,
+    rows: Vec<Row>,
+    plan: Vec<u32>,
+}
+
+/// "Rounding the plan". Without `raising`, step 3 takes every shortage as unmet,
+/// and step 4 every shortage of reserve as spinshort.
+pub fn plan(model: &Model, scale: u32, entries: &[f64], raising: bool) -> Vec<u32> {
+    let rows = (0..model.rows.count()).map(|i| model.row(i)).collect();
+    let plan = vec![0; model.columns.count()];
+    let mut rounding = Rounding { model, scale, rows, plan };
+    rounding.capacity(entries);
+    rounding.dispatch(entries);
+    rounding.balance(entries, raising);
+    rounding.reserves(raising);
+    rounding.plan
+}
+
+impl Rounding<'_> {
+    fn number(&self, column: Column, indices: &[usize]) -> usize {
+        self.model.columns.index(column, indices)
+    }
+
+    fn at(&self, column: Column, indices: &[usize]) -> i128 {
+        i128::from(self.plan[self.number(column, indices)])
+    }
+
+    fn set(&mut self, column: Column, indices: &[usize], entry: i128) {
+        let number = self.number(column, indices);
+        self.plan[number] = u32::try_from(entry).expect("an entry of 32 bits");
+    }
+
+    fn value(&self, family: usize, indices: &[usize]) -> i128 {
+        let row = &self.rows[self.model.rows.index(family, indices)];
+        row_value(row, self.scale, &self.plan).value()
+    }
+
+    /// Whether every row that the column stands in holds, but for families 1, 3 and 4:
+    /// unmet, surplus, spinshort and firmshort make those good.
+    fn is_within_limits(&self, column: usize) -> bool {
+        self.rows.iter().enumerate().all(|(number, row)| {
+            let family = self.model.rows.family(number).expect("a row");
+            let stands = row.terms.iter().any(|&(j, _)| j == column);
+            !stands
+                || matches!(family, 1 | 3 | 4)
+                || row.holds_at(row_value(row, self.scale, &self.plan).value())
+        })
+    }
+
+    /// One Nth more of a column, where it has that much headroom.
+    fn raise(&mut self, column: Column, indices: &[usize]) -> bool {
+        let number = self.number(column, indices);
+        self.plan[number] += 1;
+        let fits = self.is_within_limits(number);
+        if !fits {
+            self.plan[number] -= 1;
+        }
+        fits
+    }
+
+    /// Step 1: build upward, downward where a limit of families 15, 16 or 18 would be
+    /// passed; retire downward; cap by family 12.
+    fn capacity(&mut self, entries: &[f64]) {
+        let shape = self.model.data.shape;
+        let years_and_plants = || (0..shape.years).flat_map(|y| (0..shape.plants).map(move |g| [y, g]));
+        let rounded = |rounding: &Self, column, i: &[usize], upward| {
+            whole(entries[rounding.number(column, i)] * f64::from(rounding.scale), upward)
+        };
+        for i in years_and_plants() {
+            let column = if self.model.data.is_candidate(i[1]) { Column::Build } else { Column::Retire };
+            self.set(column, &i, rounded(self, column, &i, column == Column::Build));
+        }
+        self.stock();
+        for [y, g] in years_and_plants() {
+            let limits = [(15, vec![g]), (16, vec![y, g]), (18, vec![])];
+            if limits.iter().any(|(family, i)| self.value(*family, i) < 0) {
+                self.set(Column::Build, &[y, g], rounded(self, Column::Build, &[y, g], false));
+                self.stock();
+            }
+        }
+    }
+
+    /// cap from build and retire by family 12. What an existing plant has left when its years
+    /// end is retired then.
+    fn stock(&mut self) {
+        let data = &self.model.data;
+        for g in 0..data.shape.plants {
+            let mut cap = 0;
+            for y in 0..data.shape.years {
+                if data.is_candidate(g) {
+                    cap += self.at(Column::Build, &[y, g]);
+                } else if y == 0 {
+                    cap = i128::from(self.scale) * data.at(Table::GenCap, &[g]);
+                    self.set(Column::Retire, &[y, g], 0);
+                } else {
+                    let ends = y as i128 + 1 >= data.at(Table::Year, &[g]);
+                    let retire = if ends { cap } else { self.at(Column::Retire, &[y, g]).min(cap) };
+                    self.set(Column::Retire, &[y, g], retire);
+                    cap -= retire;
+                }
+                self.set(Column::Cap, &[y, g], cap);
+            }
+        }
+    }
+
+    /// Step 2: gen, reserve and trans downward. Where a row of families 2 and 5 to 20 does
+    /// not hold then, its entries are lowered further.
+    fn dispatch(&mut self, entries: &[f64]) {
+        let columns = 0..self.plan.len();
+        let dispatched: Vec<usize> = columns.filter(|&j| self.is_dispatched(j)).collect();
+        for &number in &dispatched {
+            let entry = whole(entries[number] * f64::from(self.scale), false);
+            self.plan[number] = u32::try_from(entry).expect("an entry of 32 bits");
+        }
+        for number in dispatched {
+            while self.plan[number] > 0 && !self.is_within_limits(number) {
+                self.plan[number] -= 1;
+            }
+        }
+    }
+
+    fn is_dispatched(&self, number: usize) -> bool {
+        let (column, _) = self.model.columns.locate(number).expect("a column");
+        matches!(column, Column::Gen | Column::Reserve | Column::Trans)
+    }
+
+    /// Step 3: what family 1 lacks. The cheapest plant of the zone with headroom is
+    /// raised, Nth by Nth; where the zone has none, a link into it, and the sending zone
+    /// makes it good. What is left is unmet, what is too much is surplus.
+    fn balance(&mut self, entries: &[f64], raising: bool) {
+        let shape = self.model.data.shape;
+        for y in 0..shape.years {
+            for s in 0..shape.slices() {
+                // Receiving zones before those that send to them.
+                let mut zones: Vec<usize> = (0..shape.zones).collect();
+                let sent = |z: usize| -> f64 {
+                    let link = |z2| entries[self.number(Column::Trans, &[y, z, z2, s])];
+                    (0..shape.zones).map(link).sum()
+                };
+                zones.sort_by(|&a, &b| sent(a).total_cmp(&sent(b)));
+                for (done, &z) in zones.iter().enumerate() {
+                    let senders = &zones[done + 1..];
+                    while raising && self.is_worth_raising(y, z, s) {
+                        if !self.raise_cheapest(y, z, s) && !self.raise_link(y, z, s, senders) {
+                            break;
+                        }
+                    }
+                    let value = self.value(1, &[y, z, s]);
+                    self.set(Column::Unmet, &[y, z, s], (-value).max(0));
+                    self.set(Column::Surplus, &[y, z, s], value.max(0));
+                }
+            }
+        }
+    }
+
+    /// Whether a further Nth, with what it leaves as surplus, costs less than the shortage
+    /// costs as unmet. The price of the Nth is taken as that of the zone's dearest plant.
+    fn is_worth_raising(&self, y: usize, z: usize, s: usize) -> bool {
+        let short = -self.value(1, &[y, z, s]);
+        let price = |column, i: &[usize]| self.model.price_of(column, i);
+        let plants = 0..self.model.data.shape.plants;
+        let dearest = plants.map(|g| price(Column::Gen, &[y, g, s])).max().unwrap_or(0);
+        let surplus = price(Column::Surplus, &[y, z, s]);
+        let unmet = price(Column::Unmet, &[y, z, s]);
+        short > 0 && dearest + (1000 - short).max(0) * surplus < short.min(1000) * unmet
+    }
+
+    fn raise_cheapest(&mut self, y: usize, z: usize, s: usize) -> bool {
+        let mut plants: Vec<usize> = self.model.data.plants_in(z).collect();
+        plants.sort_by_key(|&g| self.model.price_of(Column::Gen, &[y, g, s]));
+        plants.into_iter().any(|g| self.raise(Column::Gen, &[y, g, s]))
+    }
+
+    fn raise_link(&mut self, y: usize, z: usize, s: usize, senders: &[usize]) -> bool {
+        let mut links = senders.iter();
+        links.any(|&z2| self.raise(Column::Trans, &[y, z2, z, s]))
+    }
+
+    /// Step 4: what families 3 and 4 lack. Reserve is raised where a plant of the zone has
+    /// headroom; what is left is spinshort and firmshort.
+    fn reserves(&mut self, raising: bool) {
+        let shape = self.model.data.shape;
+        for y in 0..shape.years {
+            for z in 0..shape.zones {
+                for s in 0..shape.slices() {
+                    let plants: Vec<usize> = self.model.data.plants_in(z).collect();
+                    while raising
+                        && self.value(3, &[y, z, s]) < 0
+                        && plants.iter().any(|&g| self.raise(Column::Reserve, &[y, g, s]))
+                    {}
+                    let value = self.value(3, &[y, z, s]);
+                    self.set(Column::SpinShort, &[y, z, s], (-value).max(0));
+                }
+                let value = self.value(4, &[y, z]);
+                self.set(Column::FirmShort, &[y, z], (-value).max(0));
+            }
+        }
+    }
+}
+
+/// "Rounding the multipliers". Without `outside_years`, step 3 treats capacity outside
+/// the plant's years as capacity in service.
+pub fn multipliers(model: &Model, solved: &[f64], outside_years: bool) -> Vec<i64> {
+    let mut mending = Mending { model, m: Vec::new() };
+    for (row, &multiplier) in solved.iter().enumerate() {
+        let nearest = multiplier.round() as i64;
+        let equality = model.row(row).equality;
+        mending.m.push(if equality { nearest } else { nearest.max(0) });
+    }
+    mending.mend(outside_years);
+    mending.m
+}
+
+/// Whole multipliers of any size, mended so that no column is underpriced.
+pub fn mended(model: &Model, m: Vec<i64>) -> Vec<i64> {
+    let mut mending = Mending { model, m };
+    mending.mend(true);
+    mending.m
+}
+
+/// Multipliers as they are mended.
+struct Mending<'m> {
+    model: &'m Model<'m>,
+    m: Vec<i64>,
+}
+
+impl Mending<'_> {
+    /// The page's four steps, in its order.
+    fn mend(&mut self, outside_years: bool) {
+        let shape = self.model.data.shape;
+        self.bound_by_prices();
+        for y in 0..shape.years {
+            for s in 0..shape.slices() {
+                for g in 0..shape.plants {
+                    self.raise(6, 1000, Column::Reserve, &[y, g, s]);
+                    self.raise(5, 1000, Column::Gen, &[y, g, s]);
+                }
+                for z in 0..shape.zones {
+                    for z2 in 0..shape.zones {
+                        self.raise(2, 1, Column::Trans, &[y, z, z2, s]);
+                    }
+                }
+            }
+        }
+        for g in 0..shape.plants {
+            for y in (0..shape.years).rev() {
+                if outside_years && self.is_outside(y, g) {
+                    self.price_outside(y, g);
+                } else {
+                    self.price_capacity(y, g);
+                }
+            }
+            for y in 0..shape.years {
+                self.price_build(y, g);
+            }
+        }
+    }
+
+    fn row(&mut self, family: usize, indices: &[usize]) -> &mut i64 {
+        &mut self.m[self.model.rows.index(family, indices)]
+    }
+
+    /// How far Σ m·a of a column is above its price; 0 or less where it is priced well.
+    fn excess(&self, column: Column, indices: &[usize]) -> i64 {
+        let number = self.model.columns.index(column, indices);
+        let load = column_loads(self.model, &self.m)[number].value();
+        (load - self.model.price(number)) as i64
+    }
+
+    /// Raises a multiplier until a column of the same indices is priced well. `unit` is what
+    /// the row's multiplier takes off the column's sum.
+    fn raise(&mut self, family: usize, unit: i64, column: Column, indices: &[usize]) {
+        let excess = self.excess(column, indices).max(0);
+        *self.row(family, indices) += (excess + unit - 1) / unit;
+    }
+
+    /// Step 1: the multipliers that unmet, surplus, spinshort and firmshort bound.
+    fn bound_by_prices(&mut self) {
+        let shape = self.model.data.shape;
+        for y in 0..shape.years {
+            for z in 0..shape.zones {
+                self.lower(4, Column::FirmShort, &[y, z]);
+                for s in 0..shape.slices() {
+                    self.lower(3, Column::SpinShort, &[y, z, s]);
+                    self.lower(1, Column::Unmet, &[y, z, s]);
+                    let least = -(self.model.price_of(Column::Surplus, &[y, z, s]) as i64);
+                    let balance = self.row(1, &[y, z, s]);
+                    *balance = (*balance).max(least);
+                }
+            }
+        }
+    }
+
+    fn lower(&mut self, family: usize, column: Column, indices: &[usize]) {
+        let most = self.model.price_of(column, indices) as i64;
+        let multiplier = self.row(family, indices);
+        *multiplier = (*multiplier).min(most);
+    }
+
+    /// Whether family 13 holds the plant's capacity at 0 in the year.
+    fn is_outside(&self, y: usize, g: usize) -> bool {
+        !self.model.row_of(13, &[y, g]).terms.is_empty()
+    }
+
+    /// Step 3, in the plant's years: family 12 so that the column cap is priced exactly. The
+    /// column retire holds it at 0 or less for an existing plant after the first year.
+    fn price_capacity(&mut self, y: usize, g: usize) {
+        let excess = self.excess(Column::Cap, &[y, g]);
+        let retires = !self.model.data.is_candidate(g) && y > 0;
+        let stock = self.row(12, &[y, g]);
+        *stock -= excess;
+        if retires {
+            *stock = (*stock).min(0);
+        }
+    }
+
+    /// Step 3, outside the plant's years: family 12 only as low as build or retire asks, and the
+    /// excess of cap to family 13, whose constant is 0.
+    fn price_outside(&mut self, y: usize, g: usize) {
+        let candidate = self.model.data.is_candidate(g);
+        let least = if candidate { -*self.row(15, &[g]) } else { 0 };
+        *self.row(12, &[y, g]) = least;
+        self.raise(13, 1, Column::Cap, &[y, g]);
+    }
+
+    /// Step 4: build of a candidate, by family 15 or 16, the one with the smaller constant.
+    fn price_build(&mut self, y: usize, g: usize) {
+        if !self.model.data.is_candidate(g) {
+            return;
+        }
+        let constant = |family, indices: &[usize]| self.model.row_of(family, indices).constant;
+        let excess = self.excess(Column::Build, &[y, g]).max(0);
+        if constant(15, &[g]) < constant(16, &[y, g]) {
+            *self.row(15, &[g]) += excess;
+        } else {
+            *self.row(16, &[y, g]) += excess;
+        }
+    }
+}

@@ -1,0 +1,317 @@
+//! docs/FORMAT.md, "From a solver" and "Two years": the page's steps run on its
+//! example, and every answer that it names.
+//!
+//! `solutions/NAME.sol` is what GLPK answered (`glpsol --freemps NAME.mps -w NAME.sol`) to
+//! the program that `cargo run --bin mps` writes of the example's data: the example
+//! itself; the example with row 437, the gas of year 2, fixed at 1254 and at 1255
+//! (`mps 437 1254`); the example with MaxCapital 1200; and that with row 440, the
+//! capital, fixed at 1 and at 2.
+
+use epm_reference::data::{DataLayout, Table};
+use epm_reference::generator;
+use epm_reference::model::Model;
+use epm_reference::program::{answer_line, read_lines, Input};
+use epm_reference::rounding::{self, Solution};
+use epm_reference::rows::RowLayout;
+use epm_reference::shape::Shape;
+use epm_reference::{certify, check, run};
+
+const PAGE: &str = include_str!("../../../docs/FORMAT.md");
+const TWO_YEARS: &[u8] = include_bytes!("../../../examples/two-years.txt");
+
+const SOLVED: &str = include_str!("../solutions/two-years.sol");
+const GAS_1254: &str = include_str!("../solutions/two-years-gas-1254.sol");
+const GAS_1255: &str = include_str!("../solutions/two-years-gas-1255.sol");
+const CAPITAL: &str = include_str!("../solutions/two-years-capital.sol");
+const CAPITAL_1: &str = include_str!("../solutions/two-years-capital-1.sol");
+const CAPITAL_2: &str = include_str!("../solutions/two-years-capital-2.sol");
+
+fn two_years() -> Shape {
+    Shape::new([2, 4, 2, 1, 1, 6, 2])
+}
+
+fn example() -> Input {
+    read_lines(TWO_YEARS).expect("no Frame")
+}
+
+/// The example with MaxCapital 1200, which then binds.
+fn short_of_capital() -> Input {
+    let mut input = example();
+    let layout = DataLayout::new(two_years());
+    input.data[layout.index(Table::MaxCapital, &[])] = 1200;
+    input
+}
+
+/// The row of the gas limit that binds, and the one row of the capital.
+fn gas() -> usize {
+    RowLayout::new(two_years()).index(17, &[1, 0, 1])
+}
+
+fn capital() -> usize {
+    RowLayout::new(two_years()).index(18, &[])
+}
+
+/// How an answer of a solver is rounded.
+struct Recipe<'a> {
+    scale: u32,
+    /// The answer that has the plan, and the one that has the multipliers.
+    plan: &'a str,
+    multipliers: &'a str,
+    /// The multiplier that was fixed for the second.
+    fixed: Option<(usize, i64)>,
+    raising: bool,
+    outside_years: bool,
+}
+
+/// All steps of the page, on the example as it was solved first.
+const ALL_STEPS: Recipe = Recipe {
+    scale: 1000,
+    plan: SOLVED,
+    multipliers: SOLVED,
+    fixed: None,
+    raising: true,
+    outside_years: true,
+};
+
+impl Recipe<'_> {
+    fn rounded(&self, data: &[u32]) -> (Vec<u32>, Vec<i64>) {
+        let model = Model::read(data).expect("sound data");
+        let entries = Solution::read(&model, self.plan).entries;
+        let mut multipliers = Solution::read(&model, self.multipliers).multipliers;
+        if let Some((row, multiplier)) = self.fixed {
+            multipliers[row] = multiplier as f64;
+        }
+        (
+            rounding::plan(&model, self.scale, &entries, self.raising),
+            rounding::multipliers(&model, &multipliers, self.outside_years),
+        )
+    }
+
+    /// The line that certify prints.
+    fn line(&self, data: &[u32]) -> String {
+        let (plan, multipliers) = self.rounded(data);
+        answer_line(certify(data, self.scale, &plan, &multipliers))
+    }
+}
+
+/// The page names an answer, with its gap as a share of the cost, on one line of a table.
+fn assert_on_page(what: &str, line: &str) {
+    let words: Vec<&str> = line.split_whitespace().collect();
+    let [answer, cost, gap] = words[..] else {
+        panic!("{what}: {line}")
+    };
+    assert_eq!(answer, "A", "{what}: {line}");
+    let figure = |word: &str| word.parse::<f64>().expect("a figure");
+    let share = 100.0 * figure(gap) / figure(cost);
+    let digits = if share < 1.0 { 4 } else { 1 };
+    let shown = format!("| `{}` | {share:.digits$} % |", line.trim_end());
+    assert!(PAGE.contains(&shown), "{what}: the page lacks {shown}");
+}
+
+#[test]
+fn the_example_is_what_the_steps_give() {
+    let input = example();
+    let recipe = Recipe {
+        multipliers: GAS_1255,
+        fixed: Some((gas(), 1255)),
+        ..ALL_STEPS
+    };
+    let (plan, multipliers) = recipe.rounded(&input.data);
+    assert_eq!(input.scale, Some(recipe.scale));
+    assert_eq!(input.plan, plan);
+    assert_eq!(input.multipliers, multipliers);
+    assert_on_page("the example", &run(TWO_YEARS));
+}
+
+#[test]
+fn what_each_step_gains() {
+    let data = example().data;
+    let earlier = Recipe {
+        raising: false,
+        outside_years: false,
+        ..ALL_STEPS
+    };
+    assert_on_page("neither step", &earlier.line(&data));
+    let outside = Recipe {
+        raising: false,
+        ..ALL_STEPS
+    };
+    assert_on_page("family 13", &outside.line(&data));
+    assert_on_page("headroom as well", &ALL_STEPS.line(&data));
+    for (multipliers, fixed) in [(GAS_1254, 1254), (GAS_1255, 1255)] {
+        let solved_again = Recipe {
+            multipliers,
+            fixed: Some((gas(), fixed)),
+            ..ALL_STEPS
+        };
+        assert_on_page("the gas fixed", &solved_again.line(&data));
+    }
+}
+
+#[test]
+fn what_the_scale_gains() {
+    let data = example().data;
+    for scale in [1, 10, 100, 1000] {
+        let recipe = Recipe {
+            scale,
+            multipliers: GAS_1255,
+            fixed: Some((gas(), 1255)),
+            ..ALL_STEPS
+        };
+        assert_on_page(&format!("N {scale}"), &recipe.line(&data));
+    }
+}
+
+#[test]
+fn what_a_fixed_multiplier_of_the_capital_gains() {
+    let data = short_of_capital().data;
+    let rounded = Recipe {
+        plan: CAPITAL,
+        multipliers: CAPITAL,
+        ..ALL_STEPS
+    };
+    assert_on_page("rounded", &rounded.line(&data));
+    for (multipliers, fixed) in [(CAPITAL_1, 1), (CAPITAL_2, 2)] {
+        let solved_again = Recipe {
+            plan: CAPITAL,
+            multipliers,
+            fixed: Some((capital(), fixed)),
+            ..ALL_STEPS
+        };
+        assert_on_page("the capital fixed", &solved_again.line(&data));
+    }
+}
+
+/// The tables that have money in them: the page's list for another money unit.
+const MONEY: [Table; 10] = [
+    Table::ResCost,
+    Table::Annuity,
+    Table::FixedOm,
+    Table::GenCost,
+    Table::Tax,
+    Table::Voll,
+    Table::SurplusPenalty,
+    Table::ResVoll,
+    Table::SresVoll,
+    Table::MaxCapital,
+];
+
+/// In dollars the numbers of money are ten times those in tens of dollars. The rent of a MW of
+/// sun over both years is then above 2^40 millionths.
+#[test]
+fn the_example_in_dollars_is_refused() {
+    let mut input = example();
+    change(&mut input.data, two_years(), &MONEY, |number| 10 * number);
+    assert!(check(&input.data, 1000, &input.plan).is_ok());
+    for multiplier in &mut input.multipliers {
+        *multiplier *= 10;
+    }
+    let answer = certify(&input.data, 1000, &input.plan, &input.multipliers);
+    let row = RowLayout::new(two_years()).index(12, &[0, 2]);
+    assert_eq!(answer_line(answer), format!("R 10 {row}\n"));
+    assert!(PAGE.contains(&format!("`R 10 {row}`")));
+}
+
+/// Changes every number of some tables.
+fn change(data: &mut [u32], shape: Shape, tables: &[Table], by: impl Fn(u32) -> u32) {
+    let layout = DataLayout::new(shape);
+    for (place, number) in data.iter_mut().enumerate() {
+        if layout.locate(place).is_some_and(|(table, _)| tables.contains(&table)) {
+            *number = by(*number);
+        }
+    }
+}
+
+/// The tables in MW, and those for each MW, MWh, kW or kWh: the page's lists for another unit
+/// of power.
+const POWER: [Table; 6] = [
+    Table::GenCap,
+    Table::MaxNewCap,
+    Table::Demand,
+    Table::SRes,
+    Table::Tl,
+    Table::BuildLimit,
+];
+const FOR_POWER: [Table; 10] = [
+    Table::HeatRate,
+    Table::Emission,
+    Table::ResCost,
+    Table::Annuity,
+    Table::FixedOm,
+    Table::GenCost,
+    Table::Voll,
+    Table::SurplusPenalty,
+    Table::ResVoll,
+    Table::SresVoll,
+];
+
+/// The two-zone example with 100 kW in the place of a MW is the same system: the same cost and gap.
+#[test]
+fn a_unit_of_100_kw() {
+    let mut input = read_lines(include_bytes!("../../../examples/two-zones.txt")).expect("no Frame");
+    let shape = Shape::new([2, 2, 1, 1, 1, 2, 1]);
+    let before = certify(&input.data, 20, &input.plan, &input.multipliers);
+    change(&mut input.data, shape, &POWER, |number| 10 * number);
+    change(&mut input.data, shape, &FOR_POWER, |number| {
+        assert_eq!(number % 10, 0);
+        number / 10
+    });
+    input.plan.iter_mut().for_each(|entry| *entry *= 10);
+    // Families 17 to 20 count fuel, money and kg; the multipliers of all others are for power.
+    let rows = RowLayout::new(shape);
+    for (row, multiplier) in input.multipliers.iter_mut().enumerate() {
+        if rows.family(row) < Some(17) {
+            assert_eq!(*multiplier % 10, 0);
+            *multiplier /= 10;
+        }
+    }
+    let after = certify(&input.data, 20, &input.plan, &input.multipliers);
+    assert!(before.is_ok());
+    assert_eq!(after, before);
+}
+
+/// A plan without multipliers: with zeros the gap is the cost; with none at all refusal 9 says that
+/// the plan passed.
+#[test]
+fn a_plan_without_multipliers() {
+    let input = example();
+    let cost = check(&input.data, 1000, &input.plan).expect("accepted");
+    let zeros = vec![0; input.multipliers.len()];
+    let answer = certify(&input.data, 1000, &input.plan, &zeros);
+    assert_eq!(answer, Ok((cost, cost)));
+    let refusal = certify(&input.data, 1000, &input.plan, &[]).expect_err("no multipliers");
+    assert_eq!((refusal.number, refusal.place), (9, zeros.len() as u64));
+}
+
+/// Multipliers that are some units off, mended: a column is never underpriced.
+#[test]
+fn mended_multipliers_price_every_column_well() {
+    let mut accepted = 0;
+    for seed in 0..300 {
+        let case = generator::case(seed).case;
+        let Ok(model) = Model::read(&case.data) else {
+            continue;
+        };
+        let checked = check(&case.data, case.scale, &case.plan).is_ok();
+        if !checked || case.multipliers.len() != model.rows.count() || model.rows.count() > 300 {
+            continue;
+        }
+        let mut multipliers = case.multipliers.clone();
+        for (row, m) in multipliers.iter_mut().enumerate() {
+            let noise = (seed as i64 * 31 + row as i64 * 17) % 41 - 20;
+            *m = (*m).clamp(-(1 << 36), 1 << 36) + noise;
+            if !model.row(row).equality {
+                *m = (*m).max(0);
+            }
+        }
+        let multipliers = rounding::mended(&model, multipliers);
+        match certify(&case.data, case.scale, &case.plan, &multipliers) {
+            Ok(_) => accepted += 1,
+            Err(refusal) => assert!(
+                matches!(refusal.number, 10 | 11 | 13),
+                "seed {seed}: {refusal:?}"
+            ),
+        }
+    }
+    assert!(accepted > 30, "{accepted} cases accepted");
+}
