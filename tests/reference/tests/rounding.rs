@@ -18,6 +18,7 @@ use epm_reference::{certify, check, run};
 
 const PAGE: &str = include_str!("../../../docs/FORMAT.md");
 const TWO_YEARS: &[u8] = include_bytes!("../../../examples/two-years.txt");
+const TWO_ZONES: &[u8] = include_bytes!("../../../examples/two-zones.txt");
 
 const SOLVED: &str = include_str!("../solutions/two-years.sol");
 const GAS_1254: &str = include_str!("../solutions/two-years-gas-1254.sol");
@@ -182,6 +183,19 @@ fn what_a_fixed_multiplier_of_the_capital_gains() {
     }
 }
 
+/// The two-zone example's plan of least cost, which is exact in 20ths, in whole MW.
+#[test]
+fn what_headroom_gains_the_two_zone_example_at_scale_1() {
+    let input = read_lines(TWO_ZONES).expect("no Frame");
+    let model = Model::read(&input.data).expect("sound data");
+    let entries: Vec<f64> = input.plan.iter().map(|&entry| f64::from(entry) / 20.0).collect();
+    for raising in [false, true] {
+        let plan = rounding::plan(&model, 1, &entries, raising);
+        let answer = certify(&input.data, 1, &plan, &input.multipliers);
+        assert_on_page("two zones at N 1", &answer_line(answer));
+    }
+}
+
 /// The tables that have money in them: the page's list for another money unit.
 const MONEY: [Table; 10] = [
     Table::ResCost,
@@ -248,7 +262,7 @@ const FOR_POWER: [Table; 10] = [
 /// The two-zone example with 100 kW in the place of a MW is the same system: the same cost and gap.
 #[test]
 fn a_unit_of_100_kw() {
-    let mut input = read_lines(include_bytes!("../../../examples/two-zones.txt")).expect("no Frame");
+    let mut input = read_lines(TWO_ZONES).expect("no Frame");
     let shape = Shape::new([2, 2, 1, 1, 1, 2, 1]);
     let before = certify(&input.data, 20, &input.plan, &input.multipliers);
     change(&mut input.data, shape, &POWER, |number| 10 * number);
