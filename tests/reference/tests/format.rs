@@ -6,7 +6,7 @@ use epm_reference::data::{DataLayout, Table};
 use epm_reference::program::{read_lines, Input};
 use epm_reference::rows::RowLayout;
 use epm_reference::shape::Shape;
-use epm_reference::{certify, run, Refusal};
+use epm_reference::{certify, check, run, Refusal};
 
 const STATION: &[u8] = include_bytes!("../../../examples/station.txt");
 const TWO_ZONES: &[u8] = include_bytes!("../../../examples/two-zones.txt");
@@ -30,10 +30,29 @@ fn the_examples_are_answered_as_the_page_says() {
 }
 
 #[test]
-fn lengths_of_the_two_zone_example() {
-    assert_eq!(DataLayout::new(two_zones()).length(), 86);
-    assert_eq!(ColumnLayout::new(two_zones()).count(), 36);
-    assert_eq!(RowLayout::new(two_zones()).count(), 60);
+fn lengths_of_the_examples() {
+    let two_years = Shape::new([2, 4, 2, 1, 1, 6, 2]);
+    for (shape, data, columns, rows) in [(two_zones(), 86, 36, 60), (two_years, 204, 244, 447)] {
+        assert_eq!(DataLayout::new(shape).length(), data);
+        assert_eq!(ColumnLayout::new(shape).count(), columns);
+        assert_eq!(RowLayout::new(shape).count(), rows);
+    }
+}
+
+/// The largest MaxCapital·N that the page names is on scale, and the next is not.
+#[test]
+fn the_largest_capital_is_on_scale() {
+    let station = read_lines(STATION).expect("no Frame");
+    let plan: Vec<u32> = station.plan.iter().map(|entry| 2 * entry).collect();
+    let capital = RowLayout::new(Shape::new([1; 7])).index(18, &[]);
+    for (max_capital, refusal) in [
+        (4_611_686_018 / 2, None),
+        (4_611_686_018 / 2 + 1, Some(Refusal::at(6, capital))),
+    ] {
+        let mut data = station.data.clone();
+        data[48] = max_capital;
+        assert_eq!(check(&data, 2, &plan).err(), refusal);
+    }
 }
 
 #[test]
