@@ -39,15 +39,15 @@ fn lengths_of_the_examples() {
     }
 }
 
-/// The largest MaxCapital·N that the page names is on scale, and the next is not.
+/// The largest MaxCapital·N that the page names, 4,611,686,018, is on scale at N 2, and the next is not.
 #[test]
 fn the_largest_capital_is_on_scale() {
     let station = read_lines(STATION).expect("no Frame");
     let plan: Vec<u32> = station.plan.iter().map(|entry| 2 * entry).collect();
     let capital = RowLayout::new(Shape::new([1; 7])).index(18, &[]);
     for (max_capital, refusal) in [
-        (4_611_686_018 / 2, None),
-        (4_611_686_018 / 2 + 1, Some(Refusal::at(6, capital))),
+        (2_305_843_009, None),
+        (2_305_843_010, Some(Refusal::at(6, capital))),
     ] {
         let mut data = station.data.clone();
         data[48] = max_capital;
