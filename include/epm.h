@@ -1,10 +1,10 @@
 /*
  * epm.h: test, price and certify electricity capacity and dispatch plans.
  *
- * The equations, prices and refusals are those of document 01, "EPM plan
- * certificates: equations, prices and the board". The README says what the
- * answers mean to a planner, and docs/FORMAT.md has every table of the lists
- * below: order, indices, length, unit and range.
+ * docs/FORMAT.md has the equations, the prices, the refusals and every table
+ * of the lists below: order, indices, length, unit and range. It also says how
+ * to choose the scale, the money unit and the unit of power, and how to round
+ * a solver's figures. The README says what the answers mean to a planner.
  *
  * The code behind these calls is written in Rattle, a language in which each
  * function is proved to meet its contract. `rt staticlib epm_c` proves it and
@@ -64,8 +64,8 @@
  * every scale, year and start:
  *
  *  - A call ends, reads and writes inside its lists only, and answers what
- *    document 01 says, as crates/model/specs/Calls.antt defines it: accepted
- *    exactly where every test passes, else the first refusal and its place.
+ *    crates/model/specs/Calls.antt defines: accepted exactly where every test
+ *    passes, else the first refusal and its place.
  *    The contracts are in crates/epm_c/src/lib.rt.
  *  - epm_post leaves every place of the board as it was where it refuses, and
  *    every place outside the year's part as it was where it accepts.
@@ -78,8 +78,9 @@
  *    the contract of `certify` in crates/epm/src/lib.rt.
  *
  * Tested: the calls of the compiled library give the answers and boards of a
- * second implementation on thousands of inputs (tests/agreement), and those of
- * document 01's example (examples/c, examples/rust).
+ * second implementation on thousands of inputs (tests/agreement), and those
+ * that docs/FORMAT.md works out for its one-plant station (examples/c,
+ * examples/rust).
  *
  * Not proved: that the data are right, that the compiler's back end is, and
  * how much stack a call takes (under 32 KiB as it is compiled today).
@@ -119,7 +120,7 @@ enum epm_answer {
     EPM_BROKEN = 7,            /* the plan does not meet a row; the row. Rows go in order, 6 before 7 in each */
     EPM_COST_OFF_SCALE = 8,    /* the cost passes 2^62 - 1; 0 */
     EPM_MULTIPLIER_COUNT = 9,  /* there is not one multiplier for each row; the number of rows */
-    EPM_MULTIPLIER = 10,       /* a multiplier is out of its range; its row */
+    EPM_MULTIPLIER = 10,       /* a multiplier is out of its range; its row. With the right sign: the money unit is too small (docs/FORMAT.md) */
     EPM_COLUMN_OFF_SCALE = 11, /* a sum of a column passes 2^62 - 1; the column */
     EPM_UNDERPRICED = 12,      /* the multipliers ask more of a column than its price; the column. 11 before 12 in each */
     EPM_GAP_OFF_SCALE = 13,    /* a sum of the gap passes 2^62 - 1; 0 */

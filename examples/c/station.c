@@ -1,4 +1,4 @@
-/* The one-plant station of document 01 through the three calls. The exit status is 0 where every answer is the expected one. */
+/* The one-plant station of docs/FORMAT.md through the three calls. The exit status is 0 where every answer is the expected one. */
 #include <inttypes.h>
 #include <stdio.h>
 

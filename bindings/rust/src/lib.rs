@@ -1,8 +1,8 @@
-//! check, certify and post of document 01, "EPM plan certificates: equations,
-//! prices and the board", proved in Rattle and linked from
-//! `target/staticlib/libepm_c.a`. Any lists may be handed over, of any length and
-//! content. `include/epm.h` says what the lists are, what is promised of the
-//! answers and by what; `docs/FORMAT.md` has the order, units and ranges of every
+//! check, certify and post: electricity capacity and dispatch plans tested, priced
+//! and bounded, proved in Rattle and linked from `target/staticlib/libepm_c.a`. Any
+//! lists may be handed over, of any length and content. `include/epm.h` says what
+//! the lists are, what is promised of the answers and by what; `docs/FORMAT.md` has
+//! the equations, the prices, the refusals, and the order, unit and range of every
 //! table.
 //!
 //! ```

@@ -1,10 +1,11 @@
-//! Document 01, "Refusals by number", but for 15, which only the program gives.
+//! The refusals by number (`docs/FORMAT.md`, "Refusals"), but for 15, which only the
+//! programs give.
 
 use std::error::Error;
 use std::fmt;
 
-/// What is wrong; as a number, that of document 01. `include/epm.h` says when each
-/// is given.
+/// What is wrong; as a number, that of `docs/FORMAT.md`, "Refusals". `include/epm.h`
+/// says when each is given.
 #[derive(Clone, Copy, Debug, PartialEq, Eq)]
 pub enum Reason {
     Shape = 1,
@@ -51,7 +52,7 @@ pub struct Refusal {
 }
 
 impl Refusal {
-    /// Document 01's number.
+    /// Its number in `docs/FORMAT.md`, "Refusals".
     pub fn number(&self) -> u32 {
         self.reason as u32
     }

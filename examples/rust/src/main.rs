@@ -1,4 +1,4 @@
-//! The one-plant station of document 01 through the three calls. It stops with an
+//! The one-plant station of docs/FORMAT.md through the three calls. It stops with an
 //! error where an answer is not the expected one.
 
 use epm::{Certificate, Reason, Refusal};

@@ -126,7 +126,10 @@ fn row_words(model: &Model, number: usize) -> String {
     let (family, indices) = model.rows.locate(number).expect("a row number");
     let family = &FAMILIES[family - 1];
     let place = place_words(&model.data.shape, family.axes, &indices);
-    format!("row {number}, equation ({}) {}{place}", family.equation, family.name)
+    format!(
+        "row {number}, equation ({}) {}{place}",
+        family.equation, family.name
+    )
 }
 
 /// A row and what its terms come to by sign.

@@ -60,7 +60,10 @@ pub fn write(model: &Model, fixed: &[(usize, i64)]) -> String {
     }
     write!(text, "RHS\n{constants}BOUNDS\n").expect("a string");
     for j in (0..outside.len()).filter(|&j| outside[j]) {
-        debug_assert_eq!(model.columns.locate(j).map(|found| found.0), Some(Column::Cap));
+        debug_assert_eq!(
+            model.columns.locate(j).map(|found| found.0),
+            Some(Column::Cap)
+        );
         writeln!(text, " FX b c{j} 0").expect("a string");
     }
     text + "ENDATA\n"

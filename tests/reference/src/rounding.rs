@@ -68,7 +68,12 @@ struct Rounding<'m> {
 pub fn plan(model: &Model, scale: u32, entries: &[f64], raising: bool) -> Vec<u32> {
     let rows = (0..model.rows.count()).map(|i| model.row(i)).collect();
     let plan = vec![0; model.columns.count()];
-    let mut rounding = Rounding { model, scale, rows, plan };
+    let mut rounding = Rounding {
+        model,
+        scale,
+        rows,
+        plan,
+    };
     rounding.capacity(entries);
     rounding.dispatch(entries);
     rounding.balance(entries, raising);
@@ -95,14 +100,15 @@ impl Rounding<'_> {
         row_value(row, self.scale, &self.plan).value()
     }
 
-    /// Whether every row that the column stands in holds, but for families 1, 3 and 4:
-    /// unmet, surplus, spinshort and firmshort make those good.
+    /// Whether every row that limits the column holds. Families 1, 3 and 4 do not count:
+    /// unmet, surplus, spinshort and firmshort make them good. Nor does family 9, which asks
+    /// for more and not for less.
     fn is_within_limits(&self, column: usize) -> bool {
         self.rows.iter().enumerate().all(|(number, row)| {
             let family = self.model.rows.family(number).expect("a row");
             let stands = row.terms.iter().any(|&(j, _)| j == column);
             !stands
-                || matches!(family, 1 | 3 | 4)
+                || matches!(family, 1 | 3 | 4 | 9)
                 || row.holds_at(row_value(row, self.scale, &self.plan).value())
         })
     }
@@ -118,23 +124,32 @@ impl Rounding<'_> {
         fits
     }
 
+    /// Sets an entry to the solver's figure in whole Nths.
+    fn round(&mut self, entries: &[f64], column: Column, indices: &[usize], upward: bool) {
+        let figure = entries[self.number(column, indices)] * f64::from(self.scale);
+        self.set(column, indices, whole(figure, upward));
+    }
+
     /// Step 1: build upward, downward where a limit of families 15, 16 or 18 would be
     /// passed; retire downward; cap by family 12.
     fn capacity(&mut self, entries: &[f64]) {
         let shape = self.model.data.shape;
-        let years_and_plants = || (0..shape.years).flat_map(|y| (0..shape.plants).map(move |g| [y, g]));
-        let rounded = |rounding: &Self, column, i: &[usize], upward| {
-            whole(entries[rounding.number(column, i)] * f64::from(rounding.scale), upward)
-        };
-        for i in years_and_plants() {
-            let column = if self.model.data.is_candidate(i[1]) { Column::Build } else { Column::Retire };
-            self.set(column, &i, rounded(self, column, &i, column == Column::Build));
+        let plants = |y| (0..shape.plants).map(move |g| [y, g]);
+        let years_and_plants: Vec<[usize; 2]> = (0..shape.years).flat_map(plants).collect();
+        for i in &years_and_plants {
+            if self.model.data.is_candidate(i[1]) {
+                self.round(entries, Column::Build, i, true);
+            } else {
+                self.round(entries, Column::Retire, i, false);
+            }
         }
         self.stock();
-        for [y, g] in years_and_plants() {
-            let limits = [(15, vec![g]), (16, vec![y, g]), (18, vec![])];
-            if limits.iter().any(|(family, i)| self.value(*family, i) < 0) {
-                self.set(Column::Build, &[y, g], rounded(self, Column::Build, &[y, g], false));
+        for i in &years_and_plants {
+            let passed = [(15, &i[1..]), (16, &i[..]), (18, &[][..])]
+                .iter()
+                .any(|(family, indices)| self.value(*family, indices) < 0);
+            if passed {
+                self.round(entries, Column::Build, i, false);
                 self.stock();
             }
         }
@@ -154,7 +169,11 @@ impl Rounding<'_> {
                     self.set(Column::Retire, &[y, g], 0);
                 } else {
                     let ends = y as i128 + 1 >= data.at(Table::Year, &[g]);
-                    let retire = if ends { cap } else { self.at(Column::Retire, &[y, g]).min(cap) };
+                    let retire = if ends {
+                        cap
+                    } else {
+                        self.at(Column::Retire, &[y, g]).min(cap)
+                    };
                     self.set(Column::Retire, &[y, g], retire);
                     cap -= retire;
                 }
@@ -163,25 +182,26 @@ impl Rounding<'_> {
         }
     }
 
-    /// Step 2: gen, reserve and trans downward. Where a row of families 2 and 5 to 20 does
-    /// not hold then, its entries are lowered further.
+    /// Step 2: gen, reserve and trans downward, gen upward where a minimum load asks for it.
+    /// Where a limit does not hold then, as a ramp between two hours may not, the entry is
+    /// lowered further.
     fn dispatch(&mut self, entries: &[f64]) {
-        let columns = 0..self.plan.len();
-        let dispatched: Vec<usize> = columns.filter(|&j| self.is_dispatched(j)).collect();
-        for &number in &dispatched {
-            let entry = whole(entries[number] * f64::from(self.scale), false);
-            self.plan[number] = u32::try_from(entry).expect("an entry of 32 bits");
+        let columns = (0..self.plan.len()).filter_map(|j| self.model.columns.locate(j));
+        let dispatched: Vec<(Column, Vec<usize>)> = columns
+            .filter(|(column, _)| matches!(column, Column::Gen | Column::Reserve | Column::Trans))
+            .collect();
+        for (column, indices) in &dispatched {
+            self.round(entries, *column, indices, false);
+            while *column == Column::Gen && self.value(9, indices) < 0 {
+                self.set(*column, indices, self.at(*column, indices) + 1);
+            }
         }
-        for number in dispatched {
+        for (column, indices) in &dispatched {
+            let number = self.number(*column, indices);
             while self.plan[number] > 0 && !self.is_within_limits(number) {
                 self.plan[number] -= 1;
             }
         }
-    }
-
-    fn is_dispatched(&self, number: usize) -> bool {
-        let (column, _) = self.model.columns.locate(number).expect("a column");
-        matches!(column, Column::Gen | Column::Reserve | Column::Trans)
     }
 
     /// Step 3: what family 1 lacks. The cheapest plant of the zone with headroom is
@@ -214,12 +234,16 @@ impl Rounding<'_> {
     }
 
     /// Whether a further Nth, with what it leaves as surplus, costs less than the shortage
-    /// costs as unmet. The price of the Nth is taken as that of the zone's dearest plant.
+    /// costs as unmet. The Nth is priced as that of the dearest plant: which one gives it, and
+    /// in which zone, is not known yet.
     fn is_worth_raising(&self, y: usize, z: usize, s: usize) -> bool {
         let short = -self.value(1, &[y, z, s]);
         let price = |column, i: &[usize]| self.model.price_of(column, i);
         let plants = 0..self.model.data.shape.plants;
-        let dearest = plants.map(|g| price(Column::Gen, &[y, g, s])).max().unwrap_or(0);
+        let dearest = plants
+            .map(|g| price(Column::Gen, &[y, g, s]))
+            .max()
+            .unwrap_or(0);
         let surplus = price(Column::Surplus, &[y, z, s]);
         let unmet = price(Column::Unmet, &[y, z, s]);
         short > 0 && dearest + (1000 - short).max(0) * surplus < short.min(1000) * unmet
@@ -228,7 +252,9 @@ impl Rounding<'_> {
     fn raise_cheapest(&mut self, y: usize, z: usize, s: usize) -> bool {
         let mut plants: Vec<usize> = self.model.data.plants_in(z).collect();
         plants.sort_by_key(|&g| self.model.price_of(Column::Gen, &[y, g, s]));
-        plants.into_iter().any(|g| self.raise(Column::Gen, &[y, g, s]))
+        plants
+            .into_iter()
+            .any(|g| self.raise(Column::Gen, &[y, g, s]))
     }
 
     fn raise_link(&mut self, y: usize, z: usize, s: usize, senders: &[usize]) -> bool {
@@ -246,7 +272,9 @@ impl Rounding<'_> {
                     let plants: Vec<usize> = self.model.data.plants_in(z).collect();
                     while raising
                         && self.value(3, &[y, z, s]) < 0
-                        && plants.iter().any(|&g| self.raise(Column::Reserve, &[y, g, s]))
+                        && plants
+                            .iter()
+                            .any(|&g| self.raise(Column::Reserve, &[y, g, s]))
                     {}
                     let value = self.value(3, &[y, z, s]);
                     self.set(Column::SpinShort, &[y, z, s], (-value).max(0));
@@ -261,11 +289,16 @@ impl Rounding<'_> {
 /// "Rounding the multipliers". Without `outside_years`, step 3 treats capacity outside
 /// the plant's years as capacity in service.
 pub fn multipliers(model: &Model, solved: &[f64], outside_years: bool) -> Vec<i64> {
-    let mut mending = Mending { model, m: Vec::new() };
+    let mut mending = Mending {
+        model,
+        m: Vec::new(),
+    };
     for (row, &multiplier) in solved.iter().enumerate() {
         let nearest = multiplier.round() as i64;
         let equality = model.row(row).equality;
-        mending.m.push(if equality { nearest } else { nearest.max(0) });
+        mending
+            .m
+            .push(if equality { nearest } else { nearest.max(0) });
     }
     mending.mend(outside_years);
     mending.m

@@ -188,7 +188,11 @@ fn what_a_fixed_multiplier_of_the_capital_gains() {
 fn what_headroom_gains_the_two_zone_example_at_scale_1() {
     let input = read_lines(TWO_ZONES).expect("no Frame");
     let model = Model::read(&input.data).expect("sound data");
-    let entries: Vec<f64> = input.plan.iter().map(|&entry| f64::from(entry) / 20.0).collect();
+    let entries: Vec<f64> = input
+        .plan
+        .iter()
+        .map(|&entry| f64::from(entry) / 20.0)
+        .collect();
     for raising in [false, true] {
         let plan = rounding::plan(&model, 1, &entries, raising);
         let answer = certify(&input.data, 1, &plan, &input.multipliers);
@@ -230,7 +234,10 @@ fn the_example_in_dollars_is_refused() {
 fn change(data: &mut [u32], shape: Shape, tables: &[Table], by: impl Fn(u32) -> u32) {
     let layout = DataLayout::new(shape);
     for (place, number) in data.iter_mut().enumerate() {
-        if layout.locate(place).is_some_and(|(table, _)| tables.contains(&table)) {
+        if layout
+            .locate(place)
+            .is_some_and(|(table, _)| tables.contains(&table))
+        {
             *number = by(*number);
         }
     }
@@ -295,6 +302,40 @@ fn a_plan_without_multipliers() {
     assert_eq!(answer, Ok((cost, cost)));
     let refusal = certify(&input.data, 1000, &input.plan, &[]).expect_err("no multipliers");
     assert_eq!((refusal.number, refusal.place), (9, zeros.len() as u64));
+}
+
+/// Generated plans, taken as a solver's figures, rounded to another scale. A minimum load or a ramp may
+/// leave no whole Nth beside the plant's other limits, as the page says, and a large cost may be off
+/// scale; nothing else is refused.
+#[test]
+fn rounded_plans_are_accepted() {
+    const SCALE: u32 = 7;
+    let mut accepted = 0;
+    for seed in 0..400 {
+        let case = generator::case(seed).case;
+        if check(&case.data, case.scale, &case.plan).is_err() {
+            continue;
+        }
+        let model = Model::read(&case.data).expect("sound data");
+        if model.rows.count() > 300 {
+            continue;
+        }
+        let figure = |&entry: &u32| f64::from(entry) / f64::from(case.scale);
+        let entries: Vec<f64> = case.plan.iter().map(figure).collect();
+        let plan = rounding::plan(&model, SCALE, &entries, true);
+        match check(&case.data, SCALE, &plan) {
+            Ok(_) => accepted += 1,
+            Err(refusal) => {
+                let family = model.rows.family(refusal.place as usize);
+                let expected = match refusal.number {
+                    7 => matches!(family, Some(7..=9)),
+                    number => number == 8,
+                };
+                assert!(expected, "seed {seed}: {refusal:?}, family {family:?}");
+            }
+        }
+    }
+    assert!(accepted > 100, "{accepted} plans accepted");
 }
 
 /// Multipliers that are some units off, mended: a column is never underpriced.

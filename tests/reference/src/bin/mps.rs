@@ -16,7 +16,10 @@ fn main() -> io::Result<()> {
             let [row, multiplier] = pair else {
                 panic!("a row without a multiplier")
             };
-            (row.parse().expect("a row"), multiplier.parse().expect("a multiplier"))
+            (
+                row.parse().expect("a row"),
+                multiplier.parse().expect("a multiplier"),
+            )
         })
         .collect();
     let read = read_lines(&input).expect("lines of the format");
