@@ -18,8 +18,8 @@ pub struct Solution {
 
 impl Solution {
     /// The answer of `glpsol -w` to `mps`: lines `i row status value dual` and
-    /// `j column status value dual`, numbered from 1. Columns and rows that the
-    /// model gained since the answer was written are 0.
+    /// `j column status value dual`, numbered from 1. A figure of 0 may be
+    /// left out, so columns and rows that the model has gained since are 0 too.
     pub fn read(model: &Model, text: &str) -> Solution {
         let mut solution = Solution {
             entries: vec![0.0; model.columns.count()],
