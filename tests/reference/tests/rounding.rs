@@ -2,7 +2,7 @@
 //! example, and every answer that it names.
 //!
 //! `solutions/NAME.sol` is what GLPK answered, figures of 0 left out, to the program that
-//! `cargo run --bin mps` writes of the example's data (`../README.md`): the example
+//! `cargo run --bin mps` writes of the example's data (tests/README.md): the example
 //! itself; the example with row 437, the gas of year 2, fixed at 1254 and at 1255
 //! (`mps 437 1254`); the example with MaxCapital 1200; and that with row 440, the
 //! capital, fixed at 1 and at 2.
