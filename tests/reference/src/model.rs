@@ -241,17 +241,22 @@ impl<'a> Model<'a> {
     }
 
     /// 13 (37): cap ≤ 0 for an existing plant from its retirement year on, for a
-    /// candidate before its commission year. Years count from 1.
+    /// candidate before its commission year.
     fn capacity_years(&self, row: &mut RowBuilder, y: usize, g: usize) {
+        if self.is_outside_years(y, g) {
+            row.add(-1, Column::Cap, &[y, g]);
+        }
+    }
+
+    /// Whether the plant is not in service in the year: retired, or not commissioned
+    /// yet. Years count from 1.
+    pub fn is_outside_years(&self, y: usize, g: usize) -> bool {
         let this_year = y as i128 + 1;
         let year = self.data.at(Table::Year, &[g]);
-        let shut = if self.data.is_candidate(g) {
+        if self.data.is_candidate(g) {
             this_year < year
         } else {
             this_year >= year
-        };
-        if shut {
-            row.add(-1, Column::Cap, &[y, g]);
         }
     }
 

@@ -13,8 +13,7 @@
 //!   coefficients is taken off the prices.
 
 use crate::columns::Column;
-use crate::model::Model;
-use std::fmt::Write;
+use crate::model::{Model, Row};
 
 /// Millionths of a money unit in one.
 pub const MILLIONTHS: f64 = 1e6;
@@ -24,47 +23,88 @@ const OUTSIDE_YEARS: usize = 13;
 
 /// The program's text. `fixed` has rows with their multipliers.
 pub fn write(model: &Model, fixed: &[(usize, i64)]) -> String {
-    let is_fixed = |row: usize| fixed.iter().any(|&(number, _)| number == row);
-    let mut prices: Vec<i128> = (0..model.columns.count()).map(|j| model.price(j)).collect();
-    let mut terms = vec![Vec::new(); model.columns.count()];
-    let mut outside = vec![false; model.columns.count()];
-    let mut rows = String::new();
-    let mut constants = String::new();
-    for number in 0..model.rows.count() {
-        let row = model.row(number);
-        let sign = if row.equality { 'E' } else { 'G' };
-        writeln!(rows, " {sign} r{number}").expect("a string");
-        if model.rows.family(number) == Some(OUTSIDE_YEARS) {
-            row.terms.iter().for_each(|&(j, _)| outside[j] = true);
-        } else if !is_fixed(number) {
-            for (j, a) in row.terms {
-                terms[j].push((number, a));
-            }
-            if row.constant != 0 {
-                writeln!(constants, " k r{number} {}", -row.constant).expect("a string");
-            }
-        }
+    let rows: Vec<Row> = (0..model.rows.count())
+        .map(|number| solved_row(model, fixed, number))
+        .collect();
+    let sections = [
+        "NAME plan FREE\nROWS\n N cost\n".to_string(),
+        row_lines(&rows),
+        "COLUMNS\n".to_string(),
+        column_lines(&rows, &prices(model, fixed)),
+        "RHS\n".to_string(),
+        constant_lines(&rows),
+        "BOUNDS\n".to_string(),
+        bound_lines(model),
+        "ENDATA\n".to_string(),
+    ];
+    sections.concat()
+}
+
+/// A row as the solver sees it: empty where its multiplier is fixed, and in family 13.
+fn solved_row(model: &Model, fixed: &[(usize, i64)], number: usize) -> Row {
+    let row = model.row(number);
+    let is_fixed = fixed.iter().any(|&(row, _)| row == number);
+    if is_fixed || model.rows.family(number) == Some(OUTSIDE_YEARS) {
+        let equality = row.equality;
+        return Row {
+            equality,
+            ..Row::default()
+        };
     }
+    row
+}
+
+/// The prices less what the fixed multipliers pay.
+fn prices(model: &Model, fixed: &[(usize, i64)]) -> Vec<i128> {
+    let columns = 0..model.columns.count();
+    let mut prices: Vec<i128> = columns.map(|column| model.price(column)).collect();
     for &(number, multiplier) in fixed {
-        for (j, a) in model.row(number).terms {
-            prices[j] -= i128::from(multiplier) * a;
+        for (column, a) in model.row(number).terms {
+            prices[column] -= i128::from(multiplier) * a;
         }
     }
-    let mut text = format!("NAME plan FREE\nROWS\n N cost\n{rows}COLUMNS\n");
-    for (j, terms) in terms.iter().enumerate() {
-        let price = prices[j] as f64 / MILLIONTHS;
-        writeln!(text, " c{j} cost {price}").expect("a string");
-        for (number, a) in terms {
-            writeln!(text, " c{j} r{number} {a}").expect("a string");
+    prices
+}
+
+fn row_lines(rows: &[Row]) -> String {
+    let line = |(number, row): (usize, &Row)| {
+        let sign = if row.equality { 'E' } else { 'G' };
+        format!(" {sign} r{number}\n")
+    };
+    rows.iter().enumerate().map(line).collect()
+}
+
+/// Every column has a line of its price, so that none is left out of the solver's numbering.
+fn column_lines(rows: &[Row], prices: &[i128]) -> String {
+    let mut lines: Vec<String> = prices
+        .iter()
+        .enumerate()
+        .map(|(column, &price)| format!(" c{column} cost {}\n", price as f64 / MILLIONTHS))
+        .collect();
+    for (number, row) in rows.iter().enumerate() {
+        for (column, a) in &row.terms {
+            lines[*column] += &format!(" c{column} r{number} {a}\n");
         }
     }
-    write!(text, "RHS\n{constants}BOUNDS\n").expect("a string");
-    for j in (0..outside.len()).filter(|&j| outside[j]) {
-        debug_assert_eq!(
-            model.columns.locate(j).map(|found| found.0),
-            Some(Column::Cap)
-        );
-        writeln!(text, " FX b c{j} 0").expect("a string");
+    lines.concat()
+}
+
+fn constant_lines(rows: &[Row]) -> String {
+    let line = |(number, row): (usize, &Row)| match row.constant {
+        0 => String::new(),
+        constant => format!(" k r{number} {}\n", -constant),
+    };
+    rows.iter().enumerate().map(line).collect()
+}
+
+fn bound_lines(model: &Model) -> String {
+    let shape = model.data.shape;
+    let mut lines = String::new();
+    for y in 0..shape.years {
+        for g in (0..shape.plants).filter(|&g| model.is_outside_years(y, g)) {
+            let column = model.columns.index(Column::Cap, &[y, g]);
+            lines += &format!(" FX b c{column} 0\n");
+        }
     }
-    text + "ENDATA\n"
+    lines
 }

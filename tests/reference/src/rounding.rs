@@ -168,8 +168,7 @@ impl Rounding<'_> {
                     cap = i128::from(self.scale) * data.at(Table::GenCap, &[g]);
                     self.set(Column::Retire, &[y, g], 0);
                 } else {
-                    let ends = y as i128 + 1 >= data.at(Table::Year, &[g]);
-                    let retire = if ends {
+                    let retire = if self.model.is_outside_years(y, g) {
                         cap
                     } else {
                         self.at(Column::Retire, &[y, g]).min(cap)
@@ -337,7 +336,7 @@ impl Mending<'_> {
         }
         for g in 0..shape.plants {
             for y in (0..shape.years).rev() {
-                if outside_years && self.is_outside(y, g) {
+                if outside_years && self.model.is_outside_years(y, g) {
                     self.price_outside(y, g);
                 } else {
                     self.price_capacity(y, g);
@@ -388,11 +387,6 @@ impl Mending<'_> {
         let most = self.model.price_of(column, indices) as i64;
         let multiplier = self.row(family, indices);
         *multiplier = (*multiplier).min(most);
-    }
-
-    /// Whether family 13 holds the plant's capacity at 0 in the year.
-    fn is_outside(&self, y: usize, g: usize) -> bool {
-        !self.model.row_of(13, &[y, g]).terms.is_empty()
     }
 
     /// Step 3, in the plant's years: family 12 so that the column cap is priced exactly. The

@@ -7,7 +7,7 @@
 //! (`mps 437 1254`); the example with MaxCapital 1200; and that with row 440, the
 //! capital, fixed at 1 and at 2.
 
-use epm_reference::data::{DataLayout, Table};
+use epm_reference::data::{DataLayout, Table, TABLES};
 use epm_reference::generator;
 use epm_reference::model::Model;
 use epm_reference::program::{answer_line, read_lines, Input};
@@ -200,26 +200,75 @@ fn what_headroom_gains_the_two_zone_example_at_scale_1() {
     }
 }
 
-/// The tables that have money in them: the page's list for another money unit.
-const MONEY: [Table; 10] = [
-    Table::ResCost,
-    Table::Annuity,
-    Table::FixedOm,
-    Table::GenCost,
-    Table::Tax,
-    Table::Voll,
-    Table::SurplusPenalty,
-    Table::ResVoll,
-    Table::SresVoll,
-    Table::MaxCapital,
-];
+/// What a table's numbers are multiplied by where the unit of money is a tenth, and where the unit
+/// of power is a tenth.
+#[derive(Clone, Copy, PartialEq, Eq)]
+enum Change {
+    Stays,
+    TenTimes,
+    Tenth,
+}
+
+/// The two changes of every table. There is no case for "all others": a new table is decided here,
+/// and then the page's lists must have it.
+fn changes(table: Table) -> (Change, Change) {
+    use Change::{Stays, TenTimes, Tenth};
+    match table {
+        Table::ReturnRate | Table::Weight | Table::Duration | Table::MinimumLoadDay => {
+            (Stays, Stays)
+        }
+        Table::Zone | Table::Fuel | Table::Kind | Table::Vre | Table::Year => (Stays, Stays),
+        Table::GenCap | Table::MaxNewCap | Table::BuildLimit => (Stays, TenTimes),
+        Table::OverLoad | Table::ResOffer | Table::RampDn | Table::RampUp => (Stays, Stays),
+        Table::MinCapFac | Table::CapCredit | Table::Availability | Table::Profile => {
+            (Stays, Stays)
+        }
+        Table::HeatRate | Table::Emission => (Stays, Tenth),
+        Table::Annuity | Table::FixedOm | Table::GenCost | Table::ResCost => (TenTimes, Tenth),
+        Table::Demand | Table::SRes | Table::Tl => (Stays, TenTimes),
+        Table::Ee | Table::Prm | Table::Loss | Table::Err => (Stays, Stays),
+        Table::ZoneCap | Table::SystemCap | Table::MaxFuel => (Stays, Stays),
+        Table::Voll | Table::SurplusPenalty | Table::ResVoll | Table::SresVoll => (TenTimes, Tenth),
+        Table::Tax | Table::MaxCapital => (TenTimes, Stays),
+    }
+}
+
+fn money(table: Table) -> Change {
+    changes(table).0
+}
+
+fn power(table: Table) -> Change {
+    changes(table).1
+}
+
+/// The page names the tables that change, in the order of the data list.
+#[test]
+fn the_page_names_every_table_of_another_unit() {
+    let names = |unit: fn(Table) -> Change, change| {
+        let changed = TABLES.iter().filter(|entry| unit(entry.table) == change);
+        changed
+            .map(|entry| entry.name)
+            .collect::<Vec<_>>()
+            .join(", ")
+    };
+    for list in [
+        format!(
+            "divide these tables by it: {}.",
+            names(money, Change::TenTimes)
+        ),
+        format!("Ten times: {}.", names(power, Change::TenTimes)),
+        format!("A tenth: {}.", names(power, Change::Tenth)),
+    ] {
+        assert!(PAGE.contains(&list), "the page lacks {list}");
+    }
+}
 
 /// In dollars the numbers of money are ten times those in tens of dollars. The rent of a MW of
 /// sun over both years is then above 2^40 millionths.
 #[test]
 fn the_example_in_dollars_is_refused() {
     let mut input = example();
-    change(&mut input.data, two_years(), &MONEY, |number| 10 * number);
+    change(&mut input.data, two_years(), money);
     assert!(check(&input.data, 1000, &input.plan).is_ok());
     for multiplier in &mut input.multipliers {
         *multiplier *= 10;
@@ -230,41 +279,26 @@ fn the_example_in_dollars_is_refused() {
     assert!(PAGE.contains(&format!("`R 10 {row}`")));
 }
 
-/// Changes every number of some tables.
-fn change(data: &mut [u32], shape: Shape, tables: &[Table], by: impl Fn(u32) -> u32) {
+/// The data in a tenth of a unit.
+fn change(data: &mut [u32], shape: Shape, unit: fn(Table) -> Change) {
     let layout = DataLayout::new(shape);
     for (place, number) in data.iter_mut().enumerate() {
-        if layout
-            .locate(place)
-            .is_some_and(|(table, _)| tables.contains(&table))
-        {
-            *number = by(*number);
-        }
+        let Some((table, _)) = layout.locate(place) else {
+            continue; // a count
+        };
+        *number = match unit(table) {
+            Change::Stays => *number,
+            Change::TenTimes => *number * 10,
+            Change::Tenth => tenth(i64::from(*number)) as u32,
+        };
     }
 }
 
-/// The tables in MW, and those for each MW, MWh, kW or kWh: the page's lists for another unit
-/// of power.
-const POWER: [Table; 6] = [
-    Table::GenCap,
-    Table::MaxNewCap,
-    Table::Demand,
-    Table::SRes,
-    Table::Tl,
-    Table::BuildLimit,
-];
-const FOR_POWER: [Table; 10] = [
-    Table::HeatRate,
-    Table::Emission,
-    Table::ResCost,
-    Table::Annuity,
-    Table::FixedOm,
-    Table::GenCost,
-    Table::Voll,
-    Table::SurplusPenalty,
-    Table::ResVoll,
-    Table::SresVoll,
-];
+/// A tenth of a number that has one.
+fn tenth(number: i64) -> i64 {
+    assert_eq!(number % 10, 0, "{number}");
+    number / 10
+}
 
 /// The two-zone example with 100 kW in the place of a MW is the same system: the same cost and gap.
 #[test]
@@ -272,18 +306,13 @@ fn a_unit_of_100_kw() {
     let mut input = read_lines(TWO_ZONES).expect("no Frame");
     let shape = Shape::new([2, 2, 1, 1, 1, 2, 1]);
     let before = certify(&input.data, 20, &input.plan, &input.multipliers);
-    change(&mut input.data, shape, &POWER, |number| 10 * number);
-    change(&mut input.data, shape, &FOR_POWER, |number| {
-        assert_eq!(number % 10, 0);
-        number / 10
-    });
+    change(&mut input.data, shape, power);
     input.plan.iter_mut().for_each(|entry| *entry *= 10);
     // Families 17 to 20 count fuel, money and kg; the multipliers of all others are for power.
     let rows = RowLayout::new(shape);
     for (row, multiplier) in input.multipliers.iter_mut().enumerate() {
         if rows.family(row) < Some(17) {
-            assert_eq!(*multiplier % 10, 0);
-            *multiplier /= 10;
+            *multiplier = tenth(*multiplier);
         }
     }
     let after = certify(&input.data, 20, &input.plan, &input.multipliers);
