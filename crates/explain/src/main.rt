@@ -25,9 +25,9 @@ fn main() {
         Received::Failed => {
             io::write_all(STDERR_FILENO, b"explain: standard input cannot be read\n");
         }
-        Received::Bytes(length) => {
-            print_explanation(&input[0..length]);
-            if length == INPUT_BYTES {
+        Received::Bytes(count) => {
+            print_explanation(&input[0..count]);
+            if count == INPUT_BYTES {
                 drop_rest(u64::MAX);
             }
         }

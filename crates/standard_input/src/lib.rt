@@ -1,9 +1,11 @@
 // Standard input, for the programs that answer one text.
 // What a call of the operating system reads is outside every contract; how much of the buffer it fills is not.
 use libc::STDIN_FILENO;
-ghost use Prim.Native.Nat.{_≤_};
-ghost use lib.ListN.{length};
-ghost use Rattle.standard_input.specs.Received.{Within};
+ghost use mathlib.Core.Path.{_≡_};
+ghost use Prim.Native.Nat.{_≤_, _<_};
+ghost use lib.ListN.{length, take};
+ghost use Rattle.standard_input.specs.Received.{Within, Further};
+ghost use Rattle.standard_input.specs.Size.{inputBytes};
 
 // As much of the input as can decide the answer. Lines that pass hold at most 4096, 2048, 4096 and 1 numbers, so they take at most
 // 4096·14 + 2048·14 + 4096·22 + 14 = 176,142 bytes (one number to a line). The longest good line has 4 + 64·17 + 1 = 1,093 bytes, so within that
@@ -15,21 +17,41 @@ pub enum Received {
     Failed,
 }
 
-// Reads until the input ends or `input` is full. A read that fails is told apart from the end: an input cut short is not answered.
+// What one read comes to: how many bytes there are now, or that there are no more.
+pub enum Step {
+    Total(usize),
+    End,
+    Failed,
+}
+
+// Reads once behind the first `done` bytes, which stay as they were read. A read that fails is told apart from the end of the input.
+fn read_more(input: &mut [u8], done: usize) -> Step
+    requires { ⌜ done < length (now input) ⌝ }
+    ensures { λ r. ⌜ (take done (now (input .exit)) ≡ take done (now (input .entry))) × Further r done (length (now (input .exit))) ⌝ }
+{
+    let got = libc::read(STDIN_FILENO, &mut input[done..]);
+    if got < 0 {
+        return Step::Failed;
+    }
+    let count = io::count(got, &input[done..]);
+    if count == 0 {
+        return Step::End;
+    }
+    Step::Total(done + count)
+}
+
+// Reads until the input ends or the programs' buffer is full. An input cut short by a failure is not answered.
 pub fn read_input(input: &mut [u8]) -> Received
+    requires { ⌜ length (now input) ≡ inputBytes ⌝ }
     ensures { λ r. ⌜ Within r (length (now (input .exit))) ⌝ }
 {
     let mut done = 0;
     while done < input.len() {
-        let got = libc::read(STDIN_FILENO, &mut input[done..]);
-        if got < 0 {
-            return Received::Failed;
+        match read_more(input, done) {
+            Step::Total(total) => done = total,
+            Step::End => return Received::Bytes(done),
+            Step::Failed => return Received::Failed,
         }
-        let count = io::count(got, &input[done..]);
-        if count == 0 {
-            return Received::Bytes(done);
-        }
-        done += count;
     }
     Received::Bytes(done)
 }
