@@ -11,11 +11,13 @@ ghost use mathlib.Core.Path.{_≡_};
 ghost use Prim.Native.Nat.{_≤_};
 ghost use lib.ListN.{length};
 ghost use lib.Seq.{sets};
+ghost use Rattle.frames.specs.Format.{certifyText, BindsText};
 ghost use Rattle.certify.specs.Printed.{printed};
 
-// The printed line's bytes for an input, at the start of `line`, and their number.
+// The printed line's bytes for an input, at the start of `line`, and their number. The certificate that is printed binds every rival plan (demand 3).
 fn answer(input: &[u8], line: &mut [u8; 64]) -> usize
-    ensures { λ r. ⌜ (r ≡ length (printed (now (input .entry)))) × ((r ≤ 44) × (now (line .exit) ≡ sets (now (line .entry)) 0 (printed (now (input .entry))))) ⌝ }
+    ensures { λ r. ⌜ (r ≡ length (printed (now (input .entry)))) × ((r ≤ 44) × ((now (line .exit) ≡ sets (now (line .entry)) 0 (printed (now (input .entry))))
+        × BindsText (now (input .entry)) (certifyText (now (input .entry))))) ⌝ }
 {
     answer_line::answer_line(frames::certify_text(input), line)
 }

@@ -26,7 +26,7 @@ use Rattle.model.specs.Data.{Data, read}
 use Rattle.model.specs.Columns.{columnBoxes, entries}
 use Rattle.model.specs.Prices.{cost}
 use Rattle.model.specs.Tests.{unless, dataFault, scaleFault, planLengthFault, rowsFault, costFault, planFault, boardFault, multiplierCountFault, multipliersFault, columnsFault, gapFault, dualFault, gap}
-use Rattle.model.specs.Calls.{answer, certificate, checkFault, costOf, check, certifyFault, gapOf, certify, postFault, post, posted, boardAfter, replaced, yearOutputs}
+use Rattle.model.specs.Calls.{answer, certificate, answerCode, certificateCode, checkFault, costOf, check, certifyFault, gapOf, certify, postFault, post, posted, boardAfter, replaced, yearOutputs}
 use Rattle.tables.specs.Layout.{outcome}
 use Rattle.sums.proofs.Spans.{orElse-fine}
 use Rattle.model.specs.declared.Counts.{Counts}
@@ -37,12 +37,24 @@ use Rattle.model.specs.Families.{shapeOf, rowBoxes}
 use Rattle.model.specs.declared.Refusal.the-variants.{Board}
 use Rattle.model.specs.Counts.{slicesOf}
 use Rattle.model.specs.Data.{Y, G, S}
+use Rattle.model.specs.Rival.{Binds}
 use Rattle.model.proofs.Sound.{passed, both}
+use Rattle.model.proofs.Demand.{demand3}
 use Rattle.tables.specs.Layout.{Counted, Planned, startFrom}
 use Rattle.tables.proofs.Laws.{start-at}
 use Rattle.tables.proofs.Passed.{outcome-fine, sound-counts}
 use Rattle.duals.specs.Multipliers.{Shaped, Dualled}
 use Rattle.epm.specs.Answers.{planTest, rowsAndCost, after, boardAfterCheck}
+
+-- an answer as the promises have it: document 01's number and values, and the case of the enum with them
+
+pub answered : {r a : Answer} → r ≡ a → (answerCode r ≡ answerCode a) × (r ≡ a)
+answered e = (ap answerCode e, e)
+
+-- with demand 3, which holds of whatever certify answers
+pub certified : (l : List ℕ) (N : ℕ) (plan : List ℕ) (ms : List ℤ) {r : Certificate} → r ≡ certify l N plan ms
+    → (certificateCode r ≡ certificateCode (certify l N plan ms)) × ((r ≡ certify l N plan ms) × Binds l N r)
+certified l N plan ms e = (ap certificateCode e, (e, rw e (demand3 l N plan ms)))
 
 -- the plan's tests, by what the code found
 

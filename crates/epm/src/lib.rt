@@ -1,4 +1,5 @@
-// The published calls: check, certify and post. Each takes any lists, and answers on every input.
+// The published calls: check, certify and post. Each takes any lists, and answers on every input. Its contract says the answer in document 01's
+// number and values (`answerCode`, `certificateCode`), and as the case of the enum that callers match on.
 pub mod tests;
 
 use capped::Amount;
@@ -35,7 +36,7 @@ ghost use Rattle.model.specs.declared.Answer.the-variants.{Accepted};
 ghost use Rattle.model.specs.Data.{read};
 ghost use Rattle.model.specs.Columns.{columnBoxes};
 ghost use Rattle.model.specs.Tests.{dataFault, dualFault, gap, boardFault};
-ghost use Rattle.model.specs.Calls.{check as checkSpec, certify as certifySpec, post as postSpec, posted, answer, certificate, boardAfter, replaced, yearOutputs};
+ghost use Rattle.model.specs.Calls.{check as checkSpec, certify as certifySpec, post as postSpec, posted, answer, certificate, answerCode, certificateCode, boardAfter, replaced, yearOutputs};
 ghost use Rattle.model.specs.Rival.{Binds};
 ghost use Rattle.tables.specs.Layout.{Laid, Planned, planEntry};
 ghost use Rattle.epm.specs.Answers.{rowsAndCost, after, boardAfterCheck};
@@ -59,14 +60,14 @@ fn price(data: &[u32], scale: u32, plan: &[u32], at: &[usize; 43], cat: &[usize;
 
 // check: data, N, plan; the cost, or the first refusal in document 01's order.
 pub fn check(data: &[u32], scale: u32, plan: &[u32]) -> Answer
-    ensures { λ r. ⌜ r ≡ checkSpec (now («data» .entry)) scale (now (plan .entry)) ⌝ }
+    ensures { λ r. ⌜ (answerCode r ≡ answerCode (checkSpec (now («data» .entry)) scale (now (plan .entry))))
+        × (r ≡ checkSpec (now («data» .entry)) scale (now (plan .entry))) ⌝ }
 {
     match test_data(data) {
         Outcome::Fails(r) => return Answer::Refused(r),
         Outcome::Fine => {}
     }
-    let shape = shape_of(counts_of(data));
-    let c = shape.counts;
+    let c = counts_of(data);
     let at = table_starts(c);
     let cat = column_starts(c);
     match test_plan(scale, plan.len(), cat[10]) {
@@ -97,12 +98,13 @@ fn issue(data: &[u32], scale: u32, multipliers: &[i64], cost: u64) -> Certificat
 }
 
 // certify: data, N, plan, one multiplier for each row; cost and gap, or the first refusal in document 01's order.
-// Demand 3 is the second part of its contract: an issued certificate binds every rival plan at every scale (`Binds`, model/specs/Rival.antt).
+// Demand 3 is the last part of its contract: an issued certificate binds every rival plan at every scale (`Binds`, model/specs/Rival.antt).
 pub fn certify(data: &[u32], scale: u32, plan: &[u32], multipliers: &[i64]) -> Certificate
-    ensures { λ r. ⌜ (r ≡ certifySpec (now («data» .entry)) scale (now (plan .entry)) (now (multipliers .entry))) × Binds (now («data» .entry)) scale r ⌝ }
+    ensures { λ r. ⌜ (certificateCode r ≡ certificateCode (certifySpec (now («data» .entry)) scale (now (plan .entry)) (now (multipliers .entry))))
+        × ((r ≡ certifySpec (now («data» .entry)) scale (now (plan .entry)) (now (multipliers .entry))) × Binds (now («data» .entry)) scale r) ⌝ }
 {
-    let answer = check(data, scale, plan);
-    match answer {
+    let checked = check(data, scale, plan);
+    match checked {
         Answer::Refused(r) => Certificate::Withheld(r),
         Answer::Accepted(cost) => issue(data, scale, multipliers, cost),
     }
@@ -126,13 +128,13 @@ fn put_year(data: &[u32], plan: &[u32], year: usize, board: &mut [u32], start: u
 }
 
 // Once check has answered: what it refused leaves the board alone, what it accepted goes by refusal 14.
-fn put_after(answer: Answer, data: &[u32], plan: &[u32], year: usize, board: &mut [u32], start: usize) -> Answer
-    requires { ⌜ ((cost : ℕ) → answer ≡ Accepted cost → (dataFault (now «data») ≡ fine) × (length (now plan) ≡ count (columnBoxes (read (now «data») .counts)))) ⌝ }
-    ensures { λ r. ⌜ (r ≡ after answer (boardFault (read (now («data» .entry))) year (length (now (board .entry))) start))
-        × (now (board .exit) ≡ boardAfterCheck answer (boardFault (read (now («data» .entry))) year (length (now (board .entry))) start) (now (board .entry))
+fn put_after(checked: Answer, data: &[u32], plan: &[u32], year: usize, board: &mut [u32], start: usize) -> Answer
+    requires { ⌜ ((cost : ℕ) → checked ≡ Accepted cost → (dataFault (now «data») ≡ fine) × (length (now plan) ≡ count (columnBoxes (read (now «data») .counts)))) ⌝ }
+    ensures { λ r. ⌜ (r ≡ after checked (boardFault (read (now («data» .entry))) year (length (now (board .entry))) start))
+        × (now (board .exit) ≡ boardAfterCheck checked (boardFault (read (now («data» .entry))) year (length (now (board .entry))) start) (now (board .entry))
             (replaced (now (board .entry)) start (yearOutputs (read (now («data» .entry))) (now (plan .entry)) year))) ⌝ }
 {
-    match answer {
+    match checked {
         Answer::Refused(r) => Answer::Refused(r),
         Answer::Accepted(cost) => put_year(data, plan, year, board, start, cost),
     }
@@ -140,9 +142,10 @@ fn put_after(answer: Answer, data: &[u32], plan: &[u32], year: usize, board: &mu
 
 // post: after the tests of check the year's part of the gen table replaces the board's places from `start` on; on a refusal the board keeps all it held.
 pub fn post(data: &[u32], scale: u32, plan: &[u32], year: usize, board: &mut [u32], start: usize) -> Answer
-    ensures { λ r. ⌜ (r ≡ postSpec (now («data» .entry)) scale (now (plan .entry)) year (now (board .entry)) start)
-        × (now (board .exit) ≡ posted (now («data» .entry)) scale (now (plan .entry)) year (now (board .entry)) start) ⌝ }
+    ensures { λ r. ⌜ (answerCode r ≡ answerCode (postSpec (now («data» .entry)) scale (now (plan .entry)) year (now (board .entry)) start))
+        × ((r ≡ postSpec (now («data» .entry)) scale (now (plan .entry)) year (now (board .entry)) start)
+        × (now (board .exit) ≡ posted (now («data» .entry)) scale (now (plan .entry)) year (now (board .entry)) start)) ⌝ }
 {
-    let answer = check(data, scale, plan);
-    put_after(answer, data, plan, year, board, start)
+    let checked = check(data, scale, plan);
+    put_after(checked, data, plan, year, board, start)
 }

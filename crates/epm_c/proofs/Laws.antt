@@ -1,11 +1,22 @@
--- An answer where there is room for its two figures.
+-- An answer where there is room for its two figures, and what it says of rival plans.
 use mathlib.Core.Path.{_≡_, refl, sym, _∙_, ap}
-use mathlib.Core.List.{List}
+use mathlib.Core.Bool.{cond}
+use mathlib.Core.List.{List, [], _∷_}
 use Prim.Native.Nat.{ℕ, _≤_}
-use lib.ListN.{length}
+use native.Mathlib.Omega.{arith}
+use lib.IntN.{ℤ}
+use lib.ListN.{length, getD}
 use borrow.Author.Tests.{le-ltb}
 use Rattle.model.specs.declared.Code.{Code}
-use Rattle.epm_c.specs.Exports.{status, written, figures, boardOf}
+use Rattle.model.specs.declared.Refusal.{Refusal}
+use Rattle.model.specs.declared.Refusal.the-variants.{Shape, DataLength, Entry, Scale, PlanLength, RowOffScale, Broken, CostOffScale, MultiplierCount, Multiplier, ColumnOffScale, Underpriced, GapOffScale, Board, Frame}
+use Rattle.model.specs.declared.Certificate.{Certificate}
+use Rattle.model.specs.declared.Certificate.the-variants.{Issued, Withheld}
+use Rattle.model.specs.Data.{read}
+use Rattle.model.specs.Calls.{codeOf, certificateCode, certify}
+use Rattle.model.specs.Rival.{Bounds, Binds}
+use Rattle.model.proofs.Demand.{demand3}
+use Rattle.epm_c.specs.Exports.{status, written, figures, boardOf, BindsOut}
 
 module _ (out : List ℕ) (room : 2 ≤ length out) where
   pub answered : {last : List ℕ} {c d : Code} → c ≡ d → last ≡ figures out c → (c .number ≡ status (length out) d) × (last ≡ written out d)
@@ -15,3 +26,48 @@ module _ (out : List ℕ) (room : 2 ≤ length out) where
   pub board-kept : (old : List ℕ) {last new : List ℕ} → last ≡ new → last ≡ boardOf (length out) old new
   unfolding boardOf
   board-kept old q = rw (le-ltb (length out) 2 room) q
+
+-- no refusal has the number 0
+refused : (r : Refusal) → codeOf r .number ≡ 0 → ⊥
+unfolding codeOf
+refused (Shape i) e = omega arith
+refused (DataLength n) e = omega arith
+refused (Entry i) e = omega arith
+refused Scale e = omega arith
+refused (PlanLength n) e = omega arith
+refused (RowOffScale r) e = omega arith
+refused (Broken r) e = omega arith
+refused CostOffScale e = omega arith
+refused (MultiplierCount n) e = omega arith
+refused (Multiplier r) e = omega arith
+refused (ColumnOffScale c) e = omega arith
+refused (Underpriced c) e = omega arith
+refused GapOffScale e = omega arith
+refused Board e = omega arith
+refused (Frame n) e = omega arith
+
+-- an answer of certify by its number and figures
+code-binds : (l : List ℕ) (N : ℕ) (a : Certificate) → Binds l N a → certificateCode a .number ≡ 0
+    → Bounds (read l) N (certificateCode a .first) (certificateCode a .second)
+unfolding certificateCode
+code-binds l N (Issued c g) b e = b
+code-binds l N (Withheld r) b e = absurd (refused r e)
+
+first-figure : (out : List ℕ) (c : Code) → 2 ≤ length out → getD (figures out c) 0 0 ≡ c .first
+unfolding figures
+first-figure [] c h = absurd (omega arith)
+first-figure (a ∷ []) c h = absurd (omega arith)
+first-figure (a ∷ b ∷ out) c h = refl
+
+second-figure : (out : List ℕ) (c : Code) → 2 ≤ length out → getD (figures out c) 1 0 ≡ c .second
+unfolding figures
+second-figure [] c h = absurd (omega arith)
+second-figure (a ∷ []) c h = absurd (omega arith)
+second-figure (a ∷ b ∷ out) c h = refl
+
+-- demand 3 for the figures that are written
+pub out-binds : (l : List ℕ) (N : ℕ) (plan : List ℕ) (ms : List ℤ) (out : List ℕ) {r : ℕ} {last : List ℕ} → 2 ≤ length out
+    → r ≡ certificateCode (certify l N plan ms) .number → last ≡ figures out (certificateCode (certify l N plan ms)) → BindsOut l N r last
+out-binds l N plan ms out room e q z =
+    let a = certificateCode (certify l N plan ms) in
+    rw (q, first-figure out a room, second-figure out a room) (code-binds l N (certify l N plan ms) (demand3 l N plan ms) (sym e ∙ z))

@@ -8,7 +8,7 @@ ghost use mathlib.Core.Path.{_≡_};
 ghost use Prim.Native.Nat.{_<_, _≤_};
 ghost use lib.ListN.{length};
 ghost use Rattle.model.specs.Calls.{check, certify, post, posted, answerCode, certificateCode};
-ghost use Rattle.epm_c.specs.Exports.{status, written, figures, boardOf};
+ghost use Rattle.epm_c.specs.Exports.{status, written, figures, boardOf, BindsOut};
 
 // The two figures of a code.
 fn put(out: &mut [u64], code: Code)
@@ -33,11 +33,12 @@ pub extern "C" fn epm_check(data: &[u32], scale: u32, plan: &[u32], out: &mut [u
     code.number
 }
 
-// 0 with the cost in out[0] and the gap in out[1]; else as epm_check. What an issued certificate says of every rival plan is in the contract of `epm::certify`.
+// 0 with the cost in out[0] and the gap in out[1]; else as epm_check. Demand 3 is the last part of its contract: where 0 comes back, these two figures bind every rival plan.
 #[no_mangle]
 pub extern "C" fn epm_certify(data: &[u32], scale: u32, plan: &[u32], multipliers: &[i64], out: &mut [u64]) -> u32
     ensures { λ r. ⌜ (r ≡ status (length (now (out .entry))) (certificateCode (certify (now («data» .entry)) scale (now (plan .entry)) (now (multipliers .entry)))))
-        × (now (out .exit) ≡ written (now (out .entry)) (certificateCode (certify (now («data» .entry)) scale (now (plan .entry)) (now (multipliers .entry))))) ⌝ }
+        × ((now (out .exit) ≡ written (now (out .entry)) (certificateCode (certify (now («data» .entry)) scale (now (plan .entry)) (now (multipliers .entry)))))
+        × BindsOut (now («data» .entry)) scale r (now (out .exit))) ⌝ }
 {
     if out.len() < 2 {
         return 255;

@@ -12,6 +12,7 @@ use Rattle.model.specs.declared.Certificate.the-variants.{Issued, Withheld}
 use Rattle.model.specs.Calls.{certify}
 use Rattle.answer_line.specs.Line.{lineOf}
 use Rattle.answer_line.specs.Place.{Put}
+use Rattle.frames.proofs.Laws.{text-binds}
 use Rattle.writer.specs.Writing.{room, Said}
 use Rattle.writer.proofs.Laws.{said-whole, put-within, put-first}
 use Rattle.explanations.specs.Asked.{AskedOf}
@@ -25,7 +26,7 @@ answered l N plan ms (Withheld r) e = refused-asked l N plan ms (sym e)
 -- a line begun at its start, of the words of a text
 pub explains : (input : List ℕ) {words m : List ℕ} {r : ℕ} → Said (replicate room 0) 0 words r m → words ≡ explainText input
     → Explains input (record { bytes = m; used = r })
-explains input f e = record { whole-line = f .kept ∙ length-replicate {A = ℕ} room 0; within = f .within; held = said-whole f ∙ ap (take room) e }
+explains input f e = record { whole-line = f .kept ∙ length-replicate {A = ℕ} room 0; within = f .within; held = said-whole f ∙ ap (take room) e; binds = text-binds input }
 
 -- the answer's line at the start of a buffer of 64 bytes
 module _ (a : Certificate) {m : List ℕ} {r : ℕ} (h : (r ≡ length (lineOf a)) × ((r ≤ 44) × (m ≡ sets (replicate 64 0) 0 (lineOf a)))) where

@@ -9,7 +9,7 @@ use Rattle.model.specs.declared.Certificate.the-variants.{Withheld}
 use Rattle.model.specs.declared.Refusal.the-variants.{Frame}
 use Rattle.model.specs.Calls.{certify}
 use Rattle.texts.specs.Format.{Text, frameAt, whole, textOf}
-use Rattle.frames.specs.Format.{scaleIn}
+use Rattle.frames.specs.Format.{scaleIn, certifyText, BindsText}
 use Rattle.answer_line.specs.Line.{lineOf}
 use Rattle.writer.specs.Writing.{room}
 use Rattle.explanations.specs.declared.Explanation.{Explanation}
@@ -30,8 +30,9 @@ explanationOf (whole s) = certifiedWords (s .ofData) (scaleIn (s .ofScal)) (s .o
 unfoldable pub explainText : List ℕ → List ℕ
 explainText input = explanationOf (textOf input)
 
--- the bytes that are used are the explanation, as far as there is room
+-- the bytes that are used are the explanation, as far as there is room; the certificate that it tells binds every rival plan (demand 3)
 pub record Explains (input : List ℕ) (e : Explanation) : Type 0 where
   pub whole-line : length (e .bytes) ≡ room
   pub within : e .used ≤ room
   pub held : take (e .used) (e .bytes) ≡ take room (explainText input)
+  pub binds : BindsText input (certifyText input)

@@ -6,7 +6,7 @@ use lib.ListN.{take}
 use Rattle.model.specs.declared.Certificate.the-variants.{Issued, Withheld}
 use Rattle.model.specs.declared.Refusal.the-variants.{DataLength}
 use Rattle.texts.specs.Claims.{bytes, mostGood, mostLine}
-use Rattle.frames.specs.Format.{certifyText}
+use Rattle.frames.specs.Format.{certifyText, BindsText}
 
 -- document 01's first case: one DATA line of 49 numbers, a PLAN line of 10 and a DUAL line of 20
 abbrev pub firstCase : List ℕ
@@ -29,3 +29,7 @@ EmptyInput = certifyText (bytes "") ≡ Withheld (DataLength 7)
 -- what stands behind the first 176,142 + 1,093 bytes decides nothing, so a program may keep a buffer of fixed size
 abbrev pub FixedBuffer : Type 0
 FixedBuffer = (size : ℕ) → mostGood + mostLine ≤ size → (input : List ℕ) → certifyText (take size input) ≡ certifyText input
+
+-- demand 3 of what the programs answer
+abbrev pub Demand3OfTexts : Type 0
+Demand3OfTexts = (input : List ℕ) → BindsText input (certifyText input)

@@ -6,6 +6,7 @@ use Rattle.model.specs.declared.Certificate.{Certificate}
 use Rattle.model.specs.declared.Certificate.the-variants.{Withheld}
 use Rattle.model.specs.declared.Refusal.the-variants.{Frame}
 use Rattle.model.specs.Calls.{certify}
+use Rattle.model.specs.Rival.{Binds}
 use Rattle.texts.specs.Format.{Text, frameAt, whole, textOf}
 
 -- N, which is 1 without a SCAL line
@@ -19,3 +20,11 @@ certificateOf (whole s) = certify (s .ofData) (scaleIn (s .ofScal)) (s .ofPlan) 
 
 unfoldable pub certifyText : List ℕ → Certificate
 certifyText input = certificateOf (textOf input)
+
+-- demand 3 of a text: an issued certificate binds every rival plan over the text's data, at the text's scale
+abbrev pub BindsRead : Text → Certificate → Type 0
+BindsRead (frameAt n) r = Unit {0}
+BindsRead (whole s) r = Binds (s .ofData) (scaleIn (s .ofScal)) r
+
+abbrev pub BindsText : List ℕ → Certificate → Type 0
+BindsText input r = BindsRead (textOf input) r

@@ -8,7 +8,7 @@ use texts::input::read_text;
 ghost use mathlib.Core.Path.{_≡_};
 ghost use Rattle.texts.specs.Buffers.{Room, Within, listsIn};
 ghost use Rattle.texts.specs.Format.{whole};
-ghost use Rattle.frames.specs.Format.{scaleIn, certificateOf, certifyText};
+ghost use Rattle.frames.specs.Format.{scaleIn, certificateOf, certifyText, BindsText};
 
 // The most numbers of each word.
 pub const MOST_DATA: usize = 4096;
@@ -38,9 +38,9 @@ fn answer_of(used: Used, data: &[u32], plan: &[u32], scal: &[u32], dual: &[i64])
     certify(&data[0..d], scale_in(&scal[0..s]), &plan[0..p], &dual[0..m])
 }
 
-// The answer to a whole text: a Frame comes before every other refusal.
+// The answer to a whole text: a Frame comes before every other refusal. An issued certificate binds every rival plan (demand 3).
 pub fn certify_text(input: &[u8]) -> Certificate
-    ensures { λ r. ⌜ r ≡ certifyText (now (input .entry)) ⌝ }
+    ensures { λ r. ⌜ (r ≡ certifyText (now (input .entry))) × BindsText (now (input .entry)) r ⌝ }
 {
     let mut data = [0u32; MOST_DATA];
     let mut plan = [0u32; MOST_PLAN];

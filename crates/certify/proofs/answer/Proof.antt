@@ -11,7 +11,10 @@ answer-line-requires c κs = search needs
 
 returns : tie.Need-returns
 unfolding printed
-returns c = rw (← c .before .before .certify-text .ensures) (c .answer-line .ensures)
+returns c =
+    let certificate = c .before .before .certify-text .ensures in
+    let line = c .answer-line .ensures in
+    rw (← certificate .0) (line .0, (line .1 .0, (line .1 .1, certificate .1)))
 
 pub answer-spec : {M : Type 1} → statement M
 answer-spec = tie.close (tie.spec certify-text-requires answer-line-requires returns)

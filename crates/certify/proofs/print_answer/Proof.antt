@@ -18,7 +18,7 @@ part-write-all-start c = search needs
 part-write-all-end : tie.Need-part-write-all-end
 part-write-all-end c =
     let e = c .before .answer .ensures in
-    line-room (replicate 64 0) (printed (c .before .before .before .before .args .input .now)) (e .1 .1) refl (e .1 .0)
+    line-room (replicate 64 0) (printed (c .before .before .before .before .args .input .now)) (e .1 .1 .0) refl (e .1 .0)
 
 write-all-requires : tie.Need-write-all-requires
 write-all-requires c κs = search needs

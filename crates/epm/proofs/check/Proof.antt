@@ -1,7 +1,7 @@
 use mathlib.Core.Path.{_∙_}
 use native.Mathlib.Omega.{arith}
 use Rattle.tables.proofs.Passed.{passed-long, sound-head, passed-laid}
-use Rattle.epm.proofs.Laws.{data-refused, passes, shape-counts, counts-sound, counts-read, columns-end, plan-refused, plan-passed, plan-whole, plan-laid}
+use Rattle.epm.proofs.Laws.{answered, data-refused, passes, counts-sound, counts-read, columns-end, plan-refused, plan-passed, plan-whole, plan-laid}
 use borrow.Author.Needs.{needs}
 use Rattle.epm.proofs.check.Statement.{statement}
 use Rattle.epm.proofs.check.Tie as tie
@@ -13,7 +13,7 @@ enum-known-r : tie.Need-enum-known-r
 enum-known-r c = search needs
 
 returns : tie.Need-returns
-returns c = data-refused _ _ _ (c .before .before .before .test-data .ensures) (c .before .r .given .1)
+returns c = answered (data-refused _ _ _ (c .before .before .before .test-data .ensures) (c .before .r .given .1))
 
 enum-told : tie.Need-enum-told
 enum-told c = search needs
@@ -21,18 +21,13 @@ enum-told c = search needs
 counts-of-requires : tie.Need-counts-of-requires
 counts-of-requires c κs = passed-long _ (sound-head _ (passes (c .before .before .test-data .ensures) (c .enum-told .given .1)))
 
-shape-of-requires : tie.Need-shape-of-requires
-shape-of-requires c κs = counts-sound _ (passes (c .before .before .before .test-data .ensures) (c .before .enum-told .given .1)) (c .counts-of .ensures)
-
 table-starts-requires : tie.Need-table-starts-requires
-table-starts-requires c κs =
-    let k = c .before .before in
-    counts-sound _ (passes (k .before .before .before .test-data .ensures) (k .before .enum-told .given .1)) (shape-counts (c .before .shape-of .ensures) ∙ k .counts-of .ensures)
+table-starts-requires c κs = counts-sound _ (passes (c .before .before .before .test-data .ensures) (c .before .enum-told .given .1)) (c .counts-of .ensures)
 
 column-starts-requires : tie.Need-column-starts-requires
 column-starts-requires c κs =
-    let k = c .before .before .before in
-    counts-sound _ (passes (k .before .before .before .test-data .ensures) (k .before .enum-told .given .1)) (shape-counts (c .before .before .shape-of .ensures) ∙ k .counts-of .ensures)
+    let k = c .before in
+    counts-sound _ (passes (k .before .before .before .test-data .ensures) (k .before .enum-told .given .1)) (k .counts-of .ensures)
 
 array-read-test-plan : tie.Need-array-read-test-plan
 array-read-test-plan c = search needs
@@ -45,31 +40,31 @@ enum-known-r-2 c = search needs
 
 returns-2 : tie.Need-returns-2
 returns-2 c =
-    let k = c .before .before .before .before .before .before .before .before in
+    let k = c .before .before .before .before .before .before in
     let sound = passes (k .before .before .before .test-data .ensures) (k .before .enum-told .given .1) in
-    let counts = shape-counts (c .before .before .before .before .before .before .before .shape-of .ensures) ∙ k .counts-of .ensures in
+    let counts = k .counts-of .ensures in
     let columns = columns-end _ counts (c .before .before .before .before .column-starts .ensures .1 10 (omega arith)) in
-    plan-refused _ _ _ sound columns (c .before .before .before .test-plan .ensures) (c .before .r2 .given .1)
+    answered (plan-refused _ _ _ sound columns (c .before .before .before .test-plan .ensures) (c .before .r2 .given .1))
 
 enum-told-2 : tie.Need-enum-told-2
 enum-told-2 c = search needs
 
 price-requires : tie.Need-price-requires
 price-requires c κs =
-    let k = c .before .before .before .before .before .before .before .before .before in
+    let k = c .before .before .before .before .before .before .before in
     let sound = passes (k .before .before .before .test-data .ensures) (k .before .enum-told .given .1) in
-    let counts = shape-counts (c .before .before .before .before .before .before .before .before .shape-of .ensures) ∙ k .counts-of .ensures in
-    let columns = columns-end (c .before .before .before .before .before .before .before .before .before .before .before .before .before .before .before .args .«data» .now) counts (c .before .before .before .before .before .column-starts .ensures .1 10 (omega arith)) in
+    let counts = k .counts-of .ensures in
+    let columns = columns-end (c .before .before .before .before .before .before .before .before .before .before .before .before .before .args .«data» .now) counts (c .before .before .before .before .before .column-starts .ensures .1 10 (omega arith)) in
     let whole = plan-whole _ _ _ (c .before .before .before .before .test-plan .ensures) (c .before .before .enum-told2 .given .1) in
     (passed-laid _ (sound-head _ sound) _ counts (c .before .before .before .before .before .before .table-starts .ensures .1), (sound, plan-laid _ counts (whole ∙ columns) (c .before .before .before .before .before .column-starts .ensures .1)))
 
 returns-3 : tie.Need-returns-3
 returns-3 c =
-    let k = c .before .before .before .before .before .before .before .before .before .before in
+    let k = c .before .before .before .before .before .before .before .before in
     let sound = passes (k .before .before .before .test-data .ensures) (k .before .enum-told .given .1) in
-    let counts = shape-counts (c .before .before .before .before .before .before .before .before .before .shape-of .ensures) ∙ k .counts-of .ensures in
+    let counts = k .counts-of .ensures in
     let columns = columns-end _ counts (c .before .before .before .before .before .before .column-starts .ensures .1 10 (omega arith)) in
-    plan-passed _ _ _ sound columns (c .before .before .before .before .before .test-plan .ensures) (c .before .before .before .enum-told2 .given .1) (c .price .ensures ∙ rw (counts-read _ counts))
+    answered (plan-passed _ _ _ sound columns (c .before .before .before .before .before .test-plan .ensures) (c .before .before .before .enum-told2 .given .1) (c .price .ensures ∙ rw (counts-read _ counts)))
 
 pub check-spec : {M : Type 1} → statement M
 check-spec =
@@ -80,7 +75,6 @@ check-spec =
     returns
     enum-told
     counts-of-requires
-    shape-of-requires
     table-starts-requires
     column-starts-requires
     array-read-test-plan

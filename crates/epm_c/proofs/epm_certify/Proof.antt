@@ -1,15 +1,17 @@
+use native.Mathlib.Omega.{arith}
+use Rattle.model.specs.declared.Code.{Code}
 use Rattle.model.specs.Calls.{certificateCode}
-use Rattle.epm_c.proofs.Laws.{answered}
+use Rattle.epm_c.proofs.Laws.{answered, out-binds}
 use mathlib.Core.Path.{refl, _∙_, ap}
 use borrow.Author.Tests.{lt-ltb}
-use Rattle.epm_c.specs.Exports.{status, written}
+use Rattle.epm_c.specs.Exports.{status, written, figures}
 use borrow.Author.Needs.{needs}
 use Rattle.epm_c.proofs.epm_certify.Statement.{statement}
 use Rattle.epm_c.proofs.epm_certify.Tie as tie
 
 returns : tie.Need-returns
 unfolding status written
-returns c = rw (lt-ltb _ _ (c .if1 .taken)) (refl, refl)
+returns c = rw (lt-ltb _ _ (c .if1 .taken)) (refl, (refl, λ z. absurd (omega arith)))
 
 certify-requires : tie.Need-certify-requires
 certify-requires c κs = search needs
@@ -24,7 +26,13 @@ same-length : tie.Need-same-length
 same-length c = search needs
 
 returns-2 : tie.Need-returns-2
-returns-2 c = answered (c .before .before .before .before .before .before .before .before .before .before .args .out .now) (c .before .before .before .before .before .before .if1 .left) (c .before .before .before .before .certificate-code .ensures ∙ ap certificateCode (c .before .before .before .before .before .certify .ensures .0)) (c .before .before .put .ensures)
+returns-2 c =
+    let a = c .before .before .before .before .before .before .before .before .before .before .args in
+    let room = c .before .before .before .before .before .before .if1 .left in
+    let code = c .before .before .before .before .certificate-code .ensures ∙ ap certificateCode (c .before .before .before .before .before .certify .ensures .1 .0) in
+    let put = c .before .before .put .ensures in
+    let two = answered (a .out .now) room code put in
+    (two .0, (two .1, out-binds (a .«data» .now) (a .scale) (a .plan .now) (a .multipliers .now) (a .out .now) room (ap (λ (k : Code). k .number) code) (put ∙ ap (figures (a .out .now)) code)))
 
 pub epm-certify-spec : {M : Type 1} → statement M
 epm-certify-spec =

@@ -24,7 +24,7 @@ same-length : tie.Need-same-length
 same-length c = search needs
 
 returns-2 : tie.Need-returns-2
-returns-2 c = answered (c .before .before .before .before .before .before .before .before .before .before .args .out .now) (c .before .before .before .before .before .before .if1 .left) (c .before .before .before .before .answer-code .ensures ∙ ap answerCode (c .before .before .before .before .before .check .ensures)) (c .before .before .put .ensures)
+returns-2 c = answered (c .before .before .before .before .before .before .before .before .before .before .args .out .now) (c .before .before .before .before .before .before .if1 .left) (c .before .before .before .before .answer-code .ensures ∙ ap answerCode (c .before .before .before .before .before .check .ensures .1)) (c .before .before .put .ensures)
 
 pub epm-check-spec : {M : Type 1} → statement M
 epm-check-spec =

@@ -30,8 +30,8 @@ returns-2 : tie.Need-returns-2
 returns-2 c =
     let a = c .before .before .before .before .before .before .before .before .before .before .before .before .before .before .args in
     let room = c .before .before .before .before .before .before .before .before .before .if1 .left in
-    let two = answered (a .out .now) room (c .before .before .before .before .answer-code .ensures ∙ ap answerCode (c .before .before .before .before .before .before .before .post .ensures .0)) (c .before .before .put .ensures) in
-    (two .0, (two .1, board-kept (a .out .now) room (a .board .now) (c .before .before .before .before .before .before .before .post .ensures .1)))
+    let two = answered (a .out .now) room (c .before .before .before .before .answer-code .ensures ∙ ap answerCode (c .before .before .before .before .before .before .before .post .ensures .1 .0)) (c .before .before .put .ensures) in
+    (two .0, (two .1, board-kept (a .out .now) room (a .board .now) (c .before .before .before .before .before .before .before .post .ensures .1 .1)))
 
 pub epm-post-spec : {M : Type 1} → statement M
 epm-post-spec =

@@ -10,11 +10,11 @@ certify-requires c κs = search needs
 say-answer-requires : tie.Need-say-answer-requires
 say-answer-requires c κs =
     let a = c .before .before .before .before .args in
-    (search needs, answered (a .«data» .now) (a .scale) (a .plan .now) (a .multipliers .now) (c .before .certify .result) (c .before .certify .ensures .0))
+    (search needs, answered (a .«data» .now) (a .scale) (a .plan .now) (a .multipliers .now) (c .before .certify .result) (c .before .certify .ensures .1 .0))
 
 returns : tie.Need-returns
 unfolding certifiedWords
-returns c = rw (← c .before .before .certify .ensures .0) (c .say-answer .ensures)
+returns c = rw (← c .before .before .certify .ensures .1 .0) (c .say-answer .ensures)
 
 pub explain-lists-spec : {M : Type 1} → statement M
 explain-lists-spec = tie.close (tie.spec certify-requires say-answer-requires returns)

@@ -47,7 +47,7 @@ certify-requires : tie.Need-certify-requires
 certify-requires c κs = search needs
 
 returns : tie.Need-returns
-returns c = c .certify .ensures .0 ∙ simp (c .before .before .before .scale-in .ensures, sub-zero)
+returns c = c .certify .ensures .1 .0 ∙ simp (c .before .before .before .scale-in .ensures, sub-zero)
 
 pub answer-of-spec : {M : Type 1} → statement M
 answer-of-spec =

@@ -2,6 +2,7 @@ use mathlib.Core.Path.{ap, _∙_}
 use Rattle.texts.specs.Buffers.{textIn}
 use Rattle.frames.specs.Format.{certificateOf, certifyText}
 use Rattle.texts.proofs.BufferLaws.{room-new, room-kept}
+use Rattle.frames.proofs.Laws.{text-binds}
 use borrow.Author.Needs.{needs}
 use Rattle.frames.proofs.certify_text.Statement.{statement}
 use Rattle.frames.proofs.certify_text.Tie as tie
@@ -49,13 +50,16 @@ answer-of-requires c κs =
 returns : tie.Need-returns
 unfolding textIn certifyText
 returns c =
-    ap certificateOf (rw (c .before .number .given .1) at (c .before .before .before .before .before .before .before .read-text .ensures .0))
+    let same = ap certificateOf (rw (c .before .number .given .1) at (c .before .before .before .before .before .before .before .read-text .ensures .0)) in
+    (same, rw same (text-binds _))
 
 returns-2 : tie.Need-returns-2
 unfolding textIn certifyText
 returns-2 c =
-    c .answer-of .ensures
-    ∙ ap certificateOf (rw (c .before .before .before .before .before .before .used .given .1) at (c .before .before .before .before .before .before .before .before .before .before .before .before .read-text .ensures .0))
+    let same =
+        c .answer-of .ensures
+        ∙ ap certificateOf (rw (c .before .before .before .before .before .before .used .given .1) at (c .before .before .before .before .before .before .before .before .before .before .before .before .read-text .ensures .0)) in
+    (same, rw same (text-binds _))
 
 pub certify-text-spec : {M : Type 1} → statement M
 certify-text-spec =
