@@ -84,14 +84,14 @@ fn issue(data: &[u32], scale: u32, multipliers: &[i64], cost: u64) -> Certificat
 {
     let shape = shape_of(counts_of(data));
     match test_multipliers(multipliers, shape) {
-        Outcome::Fails(r) => return Certificate::Withheld(r),
+        Outcome::Fails(r) => return Certificate::Withheld(r), // 9 or 10
         Outcome::Fine => {}
     }
     let c = shape.counts;
     let at = table_starts(c);
     let rat = row_starts(shape);
     match test_columns(data, multipliers, &at, &rat, c) {
-        Outcome::Fails(r) => return Certificate::Withheld(r),
+        Outcome::Fails(r) => return Certificate::Withheld(r), // 11 or 12
         Outcome::Fine => {}
     }
     gap_of(data, multipliers, &at, &rat, c, scale as u64, cost)

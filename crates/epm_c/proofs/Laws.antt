@@ -19,9 +19,9 @@ use Rattle.model.proofs.Demand.{demand3}
 use Rattle.epm_c.specs.Exports.{status, written, figures, boardOf, BindsOut}
 
 module _ (out : List ℕ) (room : 2 ≤ length out) where
-  pub answered : {last : List ℕ} {c d : Code} → c ≡ d → last ≡ figures out c → (c .number ≡ status (length out) d) × (last ≡ written out d)
+  pub answered : {last : List ℕ} {r : ℕ} {c d : Code} → c ≡ d → (r ≡ c .number) × (last ≡ figures out c) → (r ≡ status (length out) d) × (last ≡ written out d)
   unfolding status written
-  answered {d = d} e q = rw (le-ltb (length out) 2 room) (ap (λ (c : Code). c .number) e, q ∙ ap (figures out) e)
+  answered {d = d} e q = rw (le-ltb (length out) 2 room) (q .0 ∙ ap (λ (c : Code). c .number) e, q .1 ∙ ap (figures out) e)
 
   pub board-kept : (old : List ℕ) {last new : List ℕ} → last ≡ new → last ≡ boardOf (length out) old new
   unfolding boardOf
@@ -66,8 +66,8 @@ second-figure (a ∷ []) c h = absurd (omega arith)
 second-figure (a ∷ b ∷ out) c h = refl
 
 -- demand 3 for the figures that are written
-pub out-binds : (l : List ℕ) (N : ℕ) (plan : List ℕ) (ms : List ℤ) (out : List ℕ) {r : ℕ} {last : List ℕ} → 2 ≤ length out
-    → r ≡ certificateCode (certify l N plan ms) .number → last ≡ figures out (certificateCode (certify l N plan ms)) → BindsOut l N r last
-out-binds l N plan ms out room e q z =
-    let a = certificateCode (certify l N plan ms) in
-    rw (q, first-figure out a room, second-figure out a room) (code-binds l N (certify l N plan ms) (demand3 l N plan ms) (sym e ∙ z))
+pub out-binds : (l : List ℕ) (N : ℕ) (plan : List ℕ) (ms : List ℤ) (out : List ℕ) {r : ℕ} {last : List ℕ} {c : Code} → 2 ≤ length out
+    → c ≡ certificateCode (certify l N plan ms) → (r ≡ c .number) × (last ≡ figures out c) → BindsOut l N r last
+out-binds l N plan ms out {c = c} room e q z =
+    let bound : Bounds (read l) N (c .first) (c .second) = rw e (code-binds l N (certify l N plan ms) (demand3 l N plan ms) (ap (λ (k : Code). k .number) (sym e) ∙ sym (q .0) ∙ z)) in
+    rw (q .1, first-figure out c room, second-figure out c room) bound

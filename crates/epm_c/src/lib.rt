@@ -10,13 +10,17 @@ ghost use lib.ListN.{length};
 ghost use Rattle.model.specs.Calls.{check, certify, post, posted, answerCode, certificateCode};
 ghost use Rattle.epm_c.specs.Exports.{status, written, figures, boardOf, BindsOut};
 
-// The two figures of a code.
-fn put(out: &mut [u64], code: Code)
+// What a call returns where `out` has no room for two figures; no refusal has this number.
+const NO_ROOM: u32 = 255;
+
+// The two figures of a code, and its number.
+fn put(out: &mut [u64], code: Code) -> u32
     requires { ⌜ 2 ≤ length (now out) ⌝ }
-    ensures { λ _. ⌜ now (out .exit) ≡ figures (now (out .entry)) code ⌝ }
+    ensures { λ r. ⌜ (r ≡ code .number) × (now (out .exit) ≡ figures (now (out .entry)) code) ⌝ }
 {
     out[0] = code.first;
     out[1] = code.second;
+    code.number
 }
 
 // 0 with the cost in out[0], or the refusal's number with its place there; out[1] is 0. 255 where `out` is shorter than 2, with nothing written.
@@ -26,11 +30,9 @@ pub extern "C" fn epm_check(data: &[u32], scale: u32, plan: &[u32], out: &mut [u
         × (now (out .exit) ≡ written (now (out .entry)) (answerCode (check (now («data» .entry)) scale (now (plan .entry))))) ⌝ }
 {
     if out.len() < 2 {
-        return 255;
+        return NO_ROOM;
     }
-    let code = answer_code(epm::check(data, scale, plan));
-    put(out, code);
-    code.number
+    put(out, answer_code(epm::check(data, scale, plan)))
 }
 
 // 0 with the cost in out[0] and the gap in out[1]; else as epm_check. Demand 3 is the last part of its contract: where 0 comes back, these two figures bind every rival plan.
@@ -41,11 +43,9 @@ pub extern "C" fn epm_certify(data: &[u32], scale: u32, plan: &[u32], multiplier
         × BindsOut (now («data» .entry)) scale r (now (out .exit))) ⌝ }
 {
     if out.len() < 2 {
-        return 255;
+        return NO_ROOM;
     }
-    let code = certificate_code(epm::certify(data, scale, plan, multipliers));
-    put(out, code);
-    code.number
+    put(out, certificate_code(epm::certify(data, scale, plan, multipliers)))
 }
 
 // The same answers, and the board as post leaves it; where `out` is too short the board is not written either.
@@ -56,9 +56,7 @@ pub extern "C" fn epm_post(data: &[u32], scale: u32, plan: &[u32], year: usize, 
         × (now (board .exit) ≡ boardOf (length (now (out .entry))) (now (board .entry)) (posted (now («data» .entry)) scale (now (plan .entry)) year (now (board .entry)) start))) ⌝ }
 {
     if out.len() < 2 {
-        return 255;
+        return NO_ROOM;
     }
-    let code = answer_code(epm::post(data, scale, plan, year, board, start));
-    put(out, code);
-    code.number
+    put(out, answer_code(epm::post(data, scale, plan, year, board, start)))
 }

@@ -1,10 +1,8 @@
 use native.Mathlib.Omega.{arith}
-use Rattle.model.specs.declared.Code.{Code}
-use Rattle.model.specs.Calls.{certificateCode}
 use Rattle.epm_c.proofs.Laws.{answered, out-binds}
-use mathlib.Core.Path.{refl, _∙_, ap}
+use mathlib.Core.Path.{refl, _∙_}
 use borrow.Author.Tests.{lt-ltb}
-use Rattle.epm_c.specs.Exports.{status, written, figures}
+use Rattle.epm_c.specs.Exports.{status, written}
 use borrow.Author.Needs.{needs}
 use Rattle.epm_c.proofs.epm_certify.Statement.{statement}
 use Rattle.epm_c.proofs.epm_certify.Tie as tie
@@ -29,10 +27,10 @@ returns-2 : tie.Need-returns-2
 returns-2 c =
     let a = c .before .before .before .before .before .before .before .before .before .before .args in
     let room = c .before .before .before .before .before .before .if1 .left in
-    let code = c .before .before .before .before .certificate-code .ensures ∙ ap certificateCode (c .before .before .before .before .before .certify .ensures .1 .0) in
+    let code = c .before .before .before .certificate-code .ensures ∙ c .before .before .before .before .certify .ensures .0 in
     let put = c .before .before .put .ensures in
     let two = answered (a .out .now) room code put in
-    (two .0, (two .1, out-binds (a .«data» .now) (a .scale) (a .plan .now) (a .multipliers .now) (a .out .now) room (ap (λ (k : Code). k .number) code) (put ∙ ap (figures (a .out .now)) code)))
+    (two .0, (two .1, out-binds (a .«data» .now) (a .scale) (a .plan .now) (a .multipliers .now) (a .out .now) room code put))
 
 pub epm-certify-spec : {M : Type 1} → statement M
 epm-certify-spec =

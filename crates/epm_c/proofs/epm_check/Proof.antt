@@ -1,6 +1,5 @@
-use Rattle.model.specs.Calls.{answerCode}
 use Rattle.epm_c.proofs.Laws.{answered}
-use mathlib.Core.Path.{refl, _∙_, ap}
+use mathlib.Core.Path.{refl, _∙_}
 use borrow.Author.Tests.{lt-ltb}
 use Rattle.epm_c.specs.Exports.{status, written}
 use borrow.Author.Needs.{needs}
@@ -24,7 +23,8 @@ same-length : tie.Need-same-length
 same-length c = search needs
 
 returns-2 : tie.Need-returns-2
-returns-2 c = answered (c .before .before .before .before .before .before .before .before .before .before .args .out .now) (c .before .before .before .before .before .before .if1 .left) (c .before .before .before .before .answer-code .ensures ∙ ap answerCode (c .before .before .before .before .before .check .ensures .1)) (c .before .before .put .ensures)
+returns-2 c =
+    answered (c .before .before .before .before .before .before .before .before .before .before .args .out .now) (c .before .before .before .before .before .before .if1 .left) (c .before .before .before .answer-code .ensures ∙ c .before .before .before .before .check .ensures .0) (c .before .before .put .ensures)
 
 pub epm-check-spec : {M : Type 1} → statement M
 epm-check-spec =
