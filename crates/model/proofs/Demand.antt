@@ -24,7 +24,7 @@ use Rattle.model.specs.Data.{Data, read}
 use Rattle.model.specs.Columns.{columns, columnBoxes, entries}
 use Rattle.model.specs.Families.{equation, equal, rows, rowBoxes}
 use Rattle.model.specs.Prices.{price, cost}
-use Rattle.model.specs.Tests.{unless, holds, constant⁺, constant⁻, above, below, rowFault, rowsFault, planFault, multiplierFault, m⁺, m⁻, mostMultiplier, priced⁺, priced⁻, columnFault, constants⁺, constants⁻, gap, multipliersFault, columnsFault, dualFault}
+use Rattle.model.specs.Tests.{unless, holds, constant⁺, constant⁻, above, below, rowFault, rowsFault, scaleFault, planLengthFault, planFault, multiplierFault, m⁺, m⁻, mostMultiplier, priced⁺, priced⁻, columnFault, constants⁺, constants⁻, gap, multipliersFault, columnsFault, dualFault}
 use Rattle.model.specs.Calls.{certificate, checkFault, certifyFault, costOf, gapOf, certify}
 use Rattle.model.specs.Rival.{Rival, Bounds, Binds}
 use Rattle.model.specs.Claims.{Demand3, WholeGap}
@@ -46,7 +46,7 @@ module _ (D : Data) where
   row-holds N x r e = hold (equal r) (below D N x r) (above D N x r) (passed _ _ (orElse-fine _ _ e .1))
 
   -- a plan whose rows have no fault meets all the equations
-  meets-all : (N : ℕ) (x : Index → ℕ) → rowsFault D N x ≡ fine → Rival D N x
+  pub meets-all : (N : ℕ) (x : Index → ℕ) → rowsFault D N x ≡ fine → Rival D N x
   unfolding rowsFault
   meets-all N x e = record { meets = λ r m. row-holds N x r (first-fine (rows D) (rowFault D N x) e r (member-in (rowBoxes (D .counts)) r m)) }
 
@@ -94,17 +94,20 @@ module _ (l : List ℕ) (N : ℕ) (plan : List ℕ) (ms : List ℤ) where
   D = read l
 
   -- what the tests of certify say together
-  record Passed : Type 0 where
-    rows-pass : rowsFault D N (entries D plan) ≡ fine
-    signs-pass : multipliersFault D ms ≡ fine
-    prices-pass : columnsFault D ms ≡ fine
+  pub record Passed : Type 0 where
+    pub scale-pass : scaleFault N ≡ fine
+    pub length-pass : planLengthFault D plan ≡ fine
+    pub rows-pass : rowsFault D N (entries D plan) ≡ fine
+    pub signs-pass : multipliersFault D ms ≡ fine
+    pub prices-pass : columnsFault D ms ≡ fine
 
   passed-all : certifyFault l N plan ms ≡ fine → Passed
   unfolding certifyFault checkFault planFault dualFault
   passed-all e =
-      let p = orElse-fine _ _ (orElse-fine _ _ (orElse-fine _ _ (orElse-fine _ _ (orElse-fine _ _ e .0) .1) .1) .1) in
+      let s = orElse-fine _ _ (orElse-fine _ _ (orElse-fine _ _ e .0) .1) in
+      let n = orElse-fine _ _ (s .1) in
       let d = orElse-fine _ _ (orElse-fine _ _ (orElse-fine _ _ e .1) .1) in
-      record { rows-pass = p .0; signs-pass = d .0; prices-pass = orElse-fine _ _ (d .1) .0 }
+      record { scale-pass = s .0; length-pass = n .0; rows-pass = orElse-fine _ _ (n .1) .0; signs-pass = d .0; prices-pass = orElse-fine _ _ (d .1) .0 }
 
   certify-binds : (f : Fault Refusal) → certifyFault l N plan ms ≡ f → Binds l N (certificate f (costOf l plan) (gapOf l N plan ms))
   unfolding costOf gapOf
@@ -113,20 +116,28 @@ module _ (l : List ℕ) (N : ℕ) (plan : List ℕ) (ms : List ℤ) where
       binding D ms (p .signs-pass) (p .prices-pass) N (entries D plan) (meets-all D N (entries D plan) (p .rows-pass))
   certify-binds (fault r) e = tt
 
-  certify-whole : (f : Fault Refusal) → certifyFault l N plan ms ≡ f → (c g : ℕ) → certificate f (costOf l plan) (gapOf l N plan ms) ≡ Issued c g
-      → g + N * constants⁻ D ms ≡ c + N * constants⁺ D ms
-  unfolding costOf gapOf
-  certify-whole fine e c g h =
-      let p = passed-all e in
-      let is : cost D (entries D plan) ≡ c = cc in
-      let by : gap D ms N (cost D (entries D plan)) ≡ g = cc in
-      rw (← is, ← by) (whole D ms (p .signs-pass) (p .prices-pass) N (entries D plan) (meets-all D N (entries D plan) (p .rows-pass)))
-  certify-whole (fault r) e c g h = let z : _≡_ {A = ℕ} 0 1 = cc in absurd (omega arith)
+  -- what an answered cost and gap say: every test passed, and they are the figures of the formulas
+  pub record Answered (c g : ℕ) : Type 0 where
+    pub tests : Passed
+    pub cost-is : costOf l plan ≡ c
+    pub gap-is : gapOf l N plan ms ≡ g
+
+  certify-answered : (f : Fault Refusal) → certifyFault l N plan ms ≡ f → (c g : ℕ) → certificate f (costOf l plan) (gapOf l N plan ms) ≡ Issued c g → Answered c g
+  certify-answered fine e c g h = record { tests = passed-all e; cost-is = cc; gap-is = cc }
+  certify-answered (fault r) e c g h = let z : _≡_ {A = ℕ} 0 1 = cc in absurd (omega arith)
+
+  pub answered : {c g : ℕ} → certify l N plan ms ≡ Issued c g → Answered c g
+  unfolding certify
+  answered {c} {g} h = certify-answered (certifyFault l N plan ms) refl c g h
 
 pub demand3 : Demand3
 unfolding certify
 demand3 l N plan ms = certify-binds l N plan ms (certifyFault l N plan ms) refl
 
 pub whole-gap : WholeGap
-unfolding certify
-whole-gap l N plan ms c g h = certify-whole l N plan ms (certifyFault l N plan ms) refl c g h
+unfolding costOf gapOf
+whole-gap l N plan ms c g h =
+    let a = answered l N plan ms h in
+    let p = a .tests in
+    rw (← a .gap-is, ← a .cost-is)
+    (whole (read l) ms (p .signs-pass) (p .prices-pass) N (entries (read l) plan) (meets-all (read l) N (entries (read l) plan) (p .rows-pass)))

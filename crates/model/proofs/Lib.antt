@@ -8,3 +8,5 @@ pub mod Numbers
 pub mod Peak
 pub mod Sound
 pub mod Demand
+pub mod Rivals
+pub mod Sharp

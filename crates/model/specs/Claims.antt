@@ -3,7 +3,8 @@
 use mathlib.Core.Path.{_≡_}
 use mathlib.Core.List.{List, map}
 use Prim.Native.Nat.{ℕ, _+_, _*_, _≤_, _<_}
-use lib.IntN.{ℤ}
+use lib.IntN.{ℤ, pos, _-ℤ_, _*ℤ_}
+use lib.Signed.{_≤ℤ_}
 use Rattle.sums.specs.Sum.{sum}
 use Rattle.sums.specs.Span.{listing, upFrom, fine}
 use Rattle.sums.specs.declared.Box.{Box}
@@ -17,18 +18,55 @@ use Rattle.model.specs.Data.{Data, read, tableBoxes, demand, peak, Z, G,
 use Rattle.model.specs.Columns.{columnBoxes, columnNumber, cap, build, retire, gen, reserve, trans, unmet, surplus, spinshort, firmshort}
 use Rattle.model.specs.Families.{rowBoxes, equation}
 use Rattle.model.specs.Tests.{dataFault, constant⁺, constant⁻, constants⁺, constants⁻}
-use Rattle.model.specs.Calls.{certify, post, posted}
-use Rattle.model.specs.Rival.{Binds}
-use Rattle.model.specs.Station.{Case, run, cases}
+use Rattle.model.specs.Prices.{cost}
+use Rattle.model.specs.Calls.{certify, costOf, post, posted}
+use Rattle.model.specs.Rival.{Rival, Bounds, Binds, RivalPlan, Cheaper}
+use Rattle.model.specs.Station.{Case, run, cases, firstCase, station, planOf, multipliersOf}
 use Rattle.model.specs.Standing.{Placed}
 
 -- the ten cases of the one-plant station, over certify itself
 abbrev pub TenCases : Type 0
 TenCases = map run cases ≡ map (λ (k : Case). k .outcome) cases
 
+-- the first of them as the answer itself
+abbrev pub FirstAnswer : Type 0
+FirstAnswer = certify station (firstCase .scale) (planOf firstCase) (multipliersOf firstCase) ≡ Issued 40000000000 0
+
 -- demand 3: whatever certify answers, where it issues a certificate this binds every rival plan at every scale
 abbrev pub Demand3 : Type 0
 Demand3 = (l : List ℕ) (N : ℕ) (plan : List ℕ) (ms : List ℤ) → Binds l N (certify l N plan ms)
+
+-- the same in document 01's words: N·cost(rival) ≥ M·(cost − gap), where answered cost less answered gap may be below zero
+abbrev pub ListedRivals : Type 0
+ListedRivals =
+    (l : List ℕ) (N : ℕ) (plan : List ℕ) (ms : List ℤ) (c g : ℕ) → certify l N plan ms ≡ Issued c g
+    → (M : ℕ) → 1 ≤ M → (rival : List ℕ) → RivalPlan l M rival
+    → (pos M *ℤ (pos c -ℤ pos g)) ≤ℤ (pos N *ℤ pos (costOf l rival))
+
+-- where the answered gap is 0 no rival plan is cheaper
+abbrev pub NoneCheaper : Type 0
+NoneCheaper =
+    (l : List ℕ) (N : ℕ) (plan : List ℕ) (ms : List ℤ) (c : ℕ) → certify l N plan ms ≡ Issued c 0
+    → (M : ℕ) → 1 ≤ M → (rival : List ℕ) → RivalPlan l M rival → Cheaper l N c M rival → ⊥
+
+-- the bound holds of rival plans at M = 1
+abbrev pub AtScaleOne : Type 0
+AtScaleOne = (D : Data) (N c g : ℕ) → Bounds D N c g → (x : Index → ℕ) → Rival D 1 x → c ≤ N * cost D x + g
+
+-- the bound is reached and no higher one holds: the plan itself is a rival plan at M = N, its cost is at the bound, and it refutes a cost larger by one
+pub record Sharp (l : List ℕ) (N : ℕ) (plan : List ℕ) (c g : ℕ) : Type 0 where
+  pub rival : RivalPlan l N plan
+  pub reached : N * c ≡ N * costOf l plan + N * g
+  pub highest : Bounds (read l) N (c + 1) g → ⊥
+
+-- so it is wherever the answered gap is 0
+abbrev pub SharpBound : Type 0
+SharpBound = (l : List ℕ) (N : ℕ) (plan : List ℕ) (ms : List ℤ) (c : ℕ) → certify l N plan ms ≡ Issued c 0 → Sharp l N plan c 0
+
+-- and such an answer is given: at the station's first case, with N = 1
+pub record SharpStation : Type 0 where
+  pub answered : FirstAnswer
+  pub sharp : Sharp station 1 (planOf firstCase) 40000000000 0
 
 -- the answered gap is cost + N·Σ m·k with nothing cut off
 abbrev pub WholeGap : Type 0

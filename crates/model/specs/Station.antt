@@ -55,9 +55,11 @@ abbrev pub case : ℕ → ℕ → ℕ → ℕ → ℕ → ℕ → Code → Case
 case n c g u v m o = record { scale = n; cap = c; gen = g; unmet = u; surplus = v; multiplier = m; outcome = o }
 
 -- N, cap, gen, unmet, surplus, m; outcome
+abbrev pub firstCase : Case
+firstCase = case 1 10 8 0 0 5000000 (accepted 40000000000 0)
 abbrev pub cases : List Case
 cases =
-    case 1 10 8 0 0 5000000 (accepted 40000000000 0)
+    firstCase
     ∷ case 1 10 8 0 0 0 (accepted 40000000000 40000000000)
     ∷ case 1 10 8 0 0 4000000 (accepted 40000000000 8000000000)
     ∷ case 1 10 8 0 0 5000001 (12 at 3)
