@@ -57,6 +57,7 @@ case n c g u v m o = record { scale = n; cap = c; gen = g; unmet = u; surplus = 
 -- N, cap, gen, unmet, surplus, m; outcome
 abbrev pub firstCase : Case
 firstCase = case 1 10 8 0 0 5000000 (accepted 40000000000 0)
+
 abbrev pub cases : List Case
 cases =
     firstCase
