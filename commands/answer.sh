@@ -46,7 +46,7 @@ build_failed() {
 build() {
   local name=$1 program=$2 reason began
   reason=$(reason_to_build "$program") || no_answer "$name" "the source of the program cannot be read"
-  [ -n "$reason" ] || return
+  [ -n "$reason" ] || return 0
   command -v rt > /dev/null || no_answer "$name" "$reason, and rt is missing: the Rattle toolchain, which proves the program and builds it. README.md, \"What you need\", says what to do"
   echo "$name: $reason: the program is proved and built first, which can take some minutes" >&2
   began=$EPOCHREALTIME
