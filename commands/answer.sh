@@ -25,14 +25,35 @@ no_answer() {
   exit "$NO_ANSWER"
 }
 
-# The program, proved and built where it is missing. The input is not lent to the toolchain: the program is to read it.
-build() {
+# Why the program cannot be used as it is: it is missing, or a source is newer. Nothing where it can.
+# Every crate counts, since rt itself finds out whether the program stands on it, and folders count, since a file taken away renews the time of its folder alone. No build reads a must-fail edit.
+reason_to_build() {
+  local program=$1 shown=${1#"$folder/"} newer
+  [ -x "$program" ] || { echo "$shown is missing"; return; }
+  newer=$(find "$folder/crates.txt" "$folder/crates" -name must-fail -prune -o -newer "$program" -print -quit) || return
+  [ -z "$newer" ] || echo "${newer#"$folder/"} is newer than $shown"
+}
+
+# Ends the command after a build that failed. rt runs what it has built, and leaves it where that run fails: the program is made older than every source, so that it does not answer the next call.
+build_failed() {
   local name=$1 program=$2
-  [ -x "$program" ] && return
-  command -v rt > /dev/null || no_answer "$name" "the program is not built yet and rt is missing: the Rattle toolchain, which proves the program and builds it (README.md, \"What you need\")"
-  echo "$name: the program is proved and built first, which takes some minutes" >&2
-  (cd "$folder" && rt check "$name") < /dev/null >&2 || no_answer "$name" "the program could not be built"
-  [ -x "$program" ] || no_answer "$name" "the program could not be built: there is no $program"
+  [ ! -e "$program" ] || touch -d @0 "$program"
+  no_answer "$name" "the program could not be built"
+}
+
+# The program, proved and built where it is missing or older than a source: an old program does not answer for a new source.
+# The input is not lent to the toolchain: the program is to read it.
+build() {
+  local name=$1 program=$2 reason began
+  reason=$(reason_to_build "$program") || no_answer "$name" "the source of the program cannot be read"
+  [ -n "$reason" ] || return 0
+  command -v rt > /dev/null || no_answer "$name" "$reason, and rt is missing: the Rattle toolchain, which proves the program and builds it. README.md, \"What you need\", says what to do"
+  echo "$name: $reason: the program is proved and built first, which can take some minutes" >&2
+  began=$EPOCHREALTIME
+  (cd "$folder" && rt check "$name") < /dev/null >&2 || build_failed "$name" "$program"
+  [ -x "$program" ] || no_answer "$name" "the program could not be built: rt left no $program. Remove target/ and call again"
+  # rt leaves a program as it is where its sources have a new time and no new content. The start of the build is the time to set: what was edited since is newer.
+  touch -d "@$began" "$program"
 }
 
 # Prints an answer line by line as it comes; the status is the first line's.

@@ -9,6 +9,6 @@ mod verdict;
 
 pub use calls::{certify, check, post};
 pub use compare::{measure, Agreement};
-pub use program::{measure_program, Program, ProgramAgreement};
+pub use program::{measure_program, Program, ProgramAgreement, BUFFER};
 pub use rivals::measure_rivals;
 pub use verdict::{seeds, verdict};

@@ -17,14 +17,14 @@ use std::collections::BTreeMap;
 use std::fmt;
 use std::io::{self, Write};
 use std::path::Path;
-use std::process::{Command, Stdio};
+use std::process::{Command, Output, Stdio};
 use std::thread;
 
 /// What `rt check certify explain` and `rt ci` leave.
 const PROGRAMS: &str = concat!(env!("CARGO_MANIFEST_DIR"), "/../../target/bin");
 
 /// The bytes of standard input that a program keeps (`crates/standard_input`).
-const BUFFER: usize = 180_224;
+pub const BUFFER: usize = 180_224;
 
 /// Refusals that the programs can give, by number: all but that of the board.
 const REFUSALS: [u32; 14] = [1, 2, 3, 4, 5, 6, 7, 8, 9, 10, 11, 12, 13, 15];
@@ -37,7 +37,7 @@ pub enum Program {
 }
 
 impl Program {
-    fn name(self) -> &'static str {
+    pub fn name(self) -> &'static str {
         match self {
             Program::Certify => "certify",
             Program::Explain => "explain",
@@ -54,25 +54,26 @@ impl Program {
         command
     }
 
-    /// What the program prints for an input that it is handed in the given pieces.
-    pub fn run_in_pieces(self, pieces: &[&[u8]]) -> io::Result<String> {
+    /// What the program leaves after an input that it is handed by a pipe. An error
+    /// where it ended before it had read all of it.
+    pub fn output(self, input: &[u8]) -> io::Result<Output> {
         let mut child = self.over(Stdio::piped()).spawn()?;
-        let mut input = child.stdin.take().expect("a pipe");
+        let mut pipe = child.stdin.take().expect("a pipe");
         // The program writes less than a pipe holds, and reads its input to the end, so
         // neither waits for the other.
-        let written = pieces.iter().try_for_each(|piece| input.write_all(piece));
-        drop(input);
+        let written = pipe.write_all(input);
+        drop(pipe);
         let output = child.wait_with_output()?;
-        written?;
+        written.map(|()| output)
+    }
+
+    /// What the program prints for an input; an error where it does anything else.
+    pub fn run(self, input: &[u8]) -> io::Result<String> {
+        let output = self.output(input)?;
         if !output.status.success() || !output.stderr.is_empty() {
             return Err(io::Error::other(format!("{output:?}")));
         }
         String::from_utf8(output.stdout).map_err(io::Error::other)
-    }
-
-    /// What the program prints for an input.
-    pub fn run(self, input: &[u8]) -> io::Result<String> {
-        self.run_in_pieces(&[input])
     }
 }
 

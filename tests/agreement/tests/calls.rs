@@ -2,6 +2,8 @@
 
 use epm::raw::{self, epm_certify, epm_check, epm_post, OUT_TOO_SHORT};
 use epm_agreement::{certify, check, measure, measure_rivals, post, Agreement};
+use epm_reference::data::DataLayout;
+use epm_reference::generator::draft::Case;
 use epm_reference::generator::random::Random;
 use epm_reference::generator::{shape, sound_case};
 use epm_reference::rows::RowLayout;
@@ -11,14 +13,20 @@ use std::ptr::{null, null_mut};
 
 const UNTOUCHED: u64 = 0x5555_5555_5555_5555;
 
+/// The largest counts.
+const LARGEST: [usize; 7] = [8, 32, 8, 4, 4, 24, 10];
+
+/// Where there are differences, the first few of them are enough to look into.
+fn none_differ(agreement: &Agreement) {
+    let first: Vec<_> = agreement.differences.iter().take(3).collect();
+    assert!(first.is_empty(), "{first:#?}");
+}
+
+/// No difference, and nothing that was not met: 500 seeds meet all that is counted.
 #[test]
 fn the_calls_agree_on_seeded_inputs() {
-    let agreement = measure(1000);
-    assert!(
-        agreement.differences.is_empty(),
-        "{:?}",
-        agreement.differences
-    );
+    let failures = measure(1000).failures();
+    assert!(failures.is_empty(), "{failures:#?}");
 }
 
 #[test]
@@ -70,39 +78,78 @@ fn only_the_first_two_words_of_out_are_written() {
     assert_eq!(out, [19, 0, UNTOUCHED, UNTOUCHED, UNTOUCHED]);
 }
 
+/// Twice as many numbers as the longest list that passes, the multipliers of the
+/// largest shape.
+fn very_long() -> usize {
+    2 * RowLayout::new(Shape::new(LARGEST)).count()
+}
+
+/// A case with one list of another length, and what certify has to answer. The
+/// numbers that the list had stay, so that a call which reads no further accepts.
+fn one_list_resized(case: &Case, length: usize) -> [(&'static str, Case, u32, usize); 3] {
+    let (mut data, mut plan, mut multipliers) = (case.clone(), case.clone(), case.clone());
+    data.data.resize(length, 0);
+    plan.plan.resize(length, 0);
+    multipliers.multipliers.resize(length, 0);
+    let wanted = if length < 7 { 7 } else { case.data.len() };
+    [
+        ("data", data, 2, wanted),
+        ("plan", plan, 5, case.plan.len()),
+        ("multipliers", multipliers, 9, case.multipliers.len()),
+    ]
+}
+
 #[test]
 fn empty_and_very_long_lists_are_answered() {
-    let long = vec![1; 3_000_000];
-    let empty: [u32; 0] = [];
-    let short = Refusal {
-        number: 2,
-        place: 7,
-    };
-    assert_eq!(check(&empty, 1, &empty), Err(short));
-    assert_eq!(check(&empty, 1, &long), Err(short));
-    for data in [&long[..], &[8, 32, 8, 4, 4, 24, 10][..]] {
-        assert_eq!(check(data, 1, &long), epm_reference::check(data, 1, &long));
+    let sound = sound_case(Shape::new([1; 7]), 3);
+    let mut agreement = Agreement::default();
+    for length in [0, very_long()] {
+        for (list, case, number, place) in one_list_resized(&sound, length) {
+            let label = format!("{list} of {length} numbers");
+            agreement.compare(&label, &case);
+            let answer = certify(&case.data, case.scale, &case.plan, &case.multipliers);
+            assert_eq!(answer, Err(Refusal::at(number, place)), "{label}");
+        }
+        let case = Case {
+            data: vec![1; length],
+            plan: vec![1; length],
+            multipliers: vec![1; length],
+            board: vec![1; length],
+            ..sound.clone()
+        };
+        agreement.compare(&format!("all lists of {length} numbers"), &case);
     }
-    let case = sound_case(Shape::new([1; 7]), 3);
-    assert_eq!(
-        check(&case.data, case.scale, &long),
-        epm_reference::check(&case.data, case.scale, &long)
-    );
+    none_differ(&agreement);
+}
 
-    let long_multipliers = vec![1; 3_000_000];
-    let count = Refusal {
-        number: 9,
-        place: 20,
-    };
-    for multipliers in [&[][..], &long_multipliers] {
-        assert_eq!(certify(&empty, 1, &empty, multipliers), Err(short));
-        assert_eq!(
-            certify(&long, 1, &long, multipliers),
-            check(&long, 1, &long).map(|_| (0, 0))
-        );
-        let answer = certify(&case.data, case.scale, &case.plan, multipliers);
-        assert_eq!(answer, Err(count));
+/// The output is written at the very end of the board, every other place is kept.
+#[test]
+fn a_very_long_board_is_written_at_its_end() {
+    let mut case = sound_case(Shape::new([1; 7]), 3);
+    case.start = very_long() - case.board.len();
+    case.board = vec![9; very_long()];
+    let mut agreement = Agreement::default();
+    agreement.compare("a very long board", &case);
+    none_differ(&agreement);
+    assert_eq!((agreement.posted, agreement.written), (1, 1));
+}
+
+/// The length that the largest counts give is wanted of data that have nothing else,
+/// and of data that go on for twice as long as any list that passes.
+#[test]
+fn the_largest_counts_want_their_length() {
+    let counts = LARGEST.map(|count| count as u32);
+    let wanted = DataLayout::new(Shape::new(LARGEST)).length();
+    let mut agreement = Agreement::default();
+    for length in [counts.len(), very_long()] {
+        let mut case = sound_case(Shape::new([1; 7]), 3);
+        case.data = counts.to_vec();
+        case.data.resize(length, 0);
+        agreement.compare(&format!("data of {length} numbers"), &case);
+        let answer = check(&case.data, case.scale, &case.plan);
+        assert_eq!(answer, Err(Refusal::at(2, wanted)));
     }
+    none_differ(&agreement);
 }
 
 /// As `include/epm.h` says.
@@ -141,7 +188,7 @@ fn no_rival_is_below_a_certificate() {
 /// last column and in the last row.
 #[test]
 fn the_calls_agree_at_full_size() {
-    let mut case = sound_case(Shape::new([8, 32, 8, 4, 4, 24, 10]), 1);
+    let mut case = sound_case(Shape::new(LARGEST), 1);
     let used = case.multipliers.iter().filter(|m| **m != 0).count();
     assert!(
         2 * used > case.multipliers.len(),
@@ -149,17 +196,13 @@ fn the_calls_agree_at_full_size() {
     );
     let mut agreement = Agreement::default();
     agreement.compare("full size", &case);
-    assert!(
-        agreement.differences.is_empty(),
-        "{:?}",
-        agreement.differences
-    );
+    none_differ(&agreement);
     assert_eq!((agreement.certified, agreement.posted), (1, 1));
 
     // RESVoLL, the third of six singles, is the price of firmshort; (21) of the
     // last year and zone asks 1 of the last of these columns.
     let price = case.data.len() - 4;
-    let rows = RowLayout::new(Shape::new([8, 32, 8, 4, 4, 24, 10]));
+    let rows = RowLayout::new(Shape::new(LARGEST));
     case.data[price] = 0;
     case.multipliers.fill(0);
     case.multipliers[rows.index(4, &[9, 7])] = 1;
@@ -264,9 +307,5 @@ fn both_sides_of_every_limit() {
             }
         }
     }
-    assert!(
-        agreement.differences.is_empty(),
-        "{:?}",
-        &agreement.differences[..3.min(agreement.differences.len())]
-    );
+    none_differ(&agreement);
 }

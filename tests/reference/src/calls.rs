@@ -116,8 +116,9 @@ fn check_multipliers(model: &Model, multipliers: &[i64]) -> Result<(), Refusal> 
     Ok(())
 }
 
-/// Refusals 11 and 12: c ≥ Σ m·a for every column, each sign on scale. The
-/// price itself is in neither sum (reading 8).
+/// Refusals 11 and 12: c ≥ Σ m·a for every column, "terms of each sign are
+/// capped". The terms are m·a, so the price itself is in neither sum
+/// (docs/DECISIONS.md, "Multipliers and gap": "A column's own price").
 fn check_column_prices(model: &Model, multipliers: &[i64]) -> Result<(), Refusal> {
     for (number, load) in column_loads(model, multipliers).iter().enumerate() {
         if load.is_off_scale() {

@@ -51,8 +51,9 @@ pub enum Table {
     MaxCapital,
 }
 
-/// The range of a table's entries. The last three depend on the plant's kind
-/// or on the entry's own indices (reading 5).
+/// The range of a table's entries. The last four depend on the plant's kind or
+/// on the entry's own indices; an entry outside one of them is refused as any
+/// other (docs/DECISIONS.md, "Data": "0 for a candidate").
 #[derive(Clone, Copy, Debug, PartialEq, Eq)]
 pub enum Range {
     /// No range named: all 32 bits.
@@ -315,7 +316,7 @@ impl<'a> Data<'a> {
         (0..self.shape.plants).filter(move |&plant| self.zone_of(plant) == zone)
     }
 
-    /// The zones z2 that differ from z (reading 2).
+    /// The zones of a sum over z2: "In every sum z2 differs from z".
     pub fn zones_beside(&self, zone: usize) -> impl Iterator<Item = usize> {
         (0..self.shape.zones).filter(move |&other| other != zone)
     }

@@ -50,8 +50,9 @@ impl<'a> Model<'a> {
         self.row_of(family, &indices)
     }
 
-    /// The row of a family 1..20. A row whose condition fails has no terms and
-    /// constant 0 (reading 6).
+    /// The row of a family 1..20. "A row whose condition fails .. reads 0 ≥ 0": it
+    /// has no terms and constant 0. A sum without members leaves the constant
+    /// (docs/DECISIONS.md, "Rows": "A condition that fails", "A sum without members").
     pub fn row_of(&self, family: usize, i: &[usize]) -> Row {
         let mut row = RowBuilder::new(self);
         match family {
@@ -101,7 +102,8 @@ impl<'a> Model<'a> {
         row.constant = -data.at(Table::Demand, &[y, z, s]) * data.at(Table::Ee, &[y, z]);
     }
 
-    /// 2 (15): trans ≤ TL, for z = z2 too (reading 3).
+    /// 2 (15): trans ≤ TL, for z = z2 too, since the family has no condition
+    /// (docs/DECISIONS.md, "Rows": "Family 2 where z = z2").
     fn transfer_limit(&self, row: &mut RowBuilder, y: usize, z: usize, z2: usize, s: usize) {
         let q = self.data.shape.season_of(s);
         row.add(-1, Column::Trans, &[y, z, z2, s]);

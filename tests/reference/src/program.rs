@@ -1,4 +1,5 @@
-//! Document 01, "The certify program", with reading 10.
+//! Document 01, "The certify program", its open words as docs/DECISIONS.md decides
+//! them under the same heading.
 
 use crate::calls::certify;
 use crate::refusal::{Refusal, FRAME};
