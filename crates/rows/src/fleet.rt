@@ -227,9 +227,9 @@ fn in_service(kind: u64, year: u64, y: usize) -> bool
     requires { ⌜ y < 10 ⌝ }
     ensures { λ r. ⌜ r ≡ not ((eqb kind 0 && leb year (y + 1)) || (not (eqb kind 0) && ltb (y + 1) year)) ⌝ }
 {
-    let now = long(y) + 1;
+    let this_year = long(y) + 1;
     if kind == 0 {
-        return now < year;
+        return this_year < year;
     }
-    year <= now
+    year <= this_year
 }
