@@ -9,6 +9,7 @@ use Prim.Native.Nat.{ℕ, _+_, _*_, _-_, _/_, _^_, _<_, _≤_, zero-le}
 use native.Mathlib.Nat.{add-zero, mul-zero, lt-of-lt-of-le, le-mul-of-pos-right, le-div-iff-mul-le, div-lt-iff-lt-mul, eq-zero-or-pos, eq-or-lt-of-le, mul-comm, mul-le-mul}
 use native.Mathlib.Omega.{arith}
 use lib.Dec.{leb, ltb}
+use lib.ListN.{getD}
 use borrow.Author.Tests.{le-leb, lt-leb, leb-true, leb-false, lt-ltb, le-ltb, ltb-true, ltb-false, ne-eqb}
 use Rattle.capped.specs.declared.Sum.{Sum}
 use Rattle.capped.specs.declared.Sum.the-variants.{Exact, Over}
@@ -18,7 +19,7 @@ use Rattle.capped.specs.declared.Order.{Order}
 use Rattle.capped.specs.declared.Order.the-variants.{Less, Equal, Greater, Unknown}
 use Rattle.capped.specs.declared.Balance.{Balance}
 use Rattle.capped.specs.declared.Balance.the-variants.{Is, BelowZero, Unsure}
-use Rattle.capped.specs.Cap.{half, limit, cap, plus, plusIf, both, times, order, over, told, word, netOf}
+use Rattle.capped.specs.Cap.{half, limit, cap, plus, plusIf, both, times, timesBoth, order, over, told, keptAs, keptSum, minus, netOf}
 
 pub le-or-lt : (m n : ℕ) → (m ≤ n) ⊎ (n < m)
 le-or-lt m n = go (leb m n) refl
@@ -142,6 +143,16 @@ times-cap m n = go (capped m) (eq-zero-or-pos n)
     go (low h) e = refl
     go (high h) (inl z) = rw (z, mul-zero m)
     go (high h) (inr p) = times-over n (λ z. omega arith) ∙ sym (cap-high (m * n) (lt-of-lt-of-le h (le-mul-of-pos-right m p)))
+
+pub times-both : (m n : ℕ) → timesBoth (cap m) (cap n) ≡ cap (m * n)
+unfolding timesBoth
+times-both m n = go (capped m) (capped n)
+  where
+    go : {s t : Sum} → Capped m s → Capped n t → timesBoth s t ≡ cap (m * n)
+    go (low h) (low k) = rw (← cap-low m h) (times-cap m n)
+    go (high h) (low k) = rw (← cap-high m h) (times-cap m n)
+    go (low h) (high k) = rw (← cap-high n k) (times-cap n m ∙ ap cap (mul-comm n m))
+    go (high h) (high k) = sym (cap-high (m * n) (lt-of-lt-of-le h (le-mul-of-pos-right m (omega arith))))
 
 -- Whether a sum is over
 
@@ -287,6 +298,18 @@ module _ (a b c : ℕ) where
   pub le-net : a ≤ limit → b ≤ limit → c ≤ limit → c ≤ a + b → netOf (cap a) (cap b) (cap c) ≡ Is (a + b - c)
   le-net h k l p = rw (cap-low a h, cap-low b k, cap-low c l) (sym (le-subtract h k p))
 
+  -- the whole of it: exact where all three are within the limit
+  pub net-cap : netOf (cap a) (cap b) (cap c) ≡ cond (leb a limit && (leb b limit && leb c limit)) (minus (a + b) c) Unsure
+  unfolding netOf
+  net-cap = go (capped a) (capped b) (capped c)
+    where
+      go : {s t u : Sum} → Capped a s → Capped b t → Capped c u
+          → netOf s t u ≡ cond (leb a limit && (leb b limit && leb c limit)) (minus (a + b) c) Unsure
+      go (high h) k l = rw (lt-leb a limit h)
+      go (low h) (high k) l = rw (le-leb a limit h, lt-leb b limit k)
+      go (low h) (low k) (high l) = rw (le-leb a limit h, le-leb b limit k, lt-leb c limit l)
+      go (low h) (low k) (low l) = rw (le-leb a limit h, le-leb b limit k, le-leb c limit l)
+
   -- What each answer says of the exact sums a, b and c.
   pub record Within : Type 0 where
     pub first : a ≤ limit
@@ -330,20 +353,15 @@ le-difference m n h p = le-net m 0 n h zero-le (omega arith) (omega arith) ∙ r
 pub lt-difference : (m n : ℕ) → n ≤ limit → m < n → netOf (cap m) (cap 0) (cap n) ≡ BelowZero
 lt-difference m n h p = lt-net m 0 n (omega arith) zero-le h (omega arith)
 
--- A sum in one word, as a factor of a product
+-- A sum that a list keeps
 
-pub plus-word : (m f n : ℕ) → plus (cap m) (f * word (cap n)) ≡ cap (m + f * n)
-unfolding word
-plus-word m f n = plus-cap m (f * word (cap n)) ∙ go (capped n)
+pub kept-cap : (n : ℕ) → keptSum (keptAs (cap n)) ≡ cap n
+unfolding keptAs keptSum
+kept-cap n = go (capped n)
   where
-    zero-or-more : (k : ℕ) → limit < k → (f ≡ 0) ⊎ (0 < f) → cap (m + f * (limit + 1)) ≡ cap (m + f * k)
-    zero-or-more k h (inl e) = rw e (ap cap (omega arith))
-    zero-or-more k h (inr p) =
-        cap-high (m + f * (limit + 1)) (omega (arith, le-mul-of-pos-right (limit + 1) p, mul-comm f (limit + 1)))
-        ∙ sym (cap-high (m + f * k) (omega (arith, le-mul-of-pos-right k p, mul-comm f k)))
-    go : {s : Sum} → Capped n s → cap (m + f * word s) ≡ cap (m + f * n)
-    go (low h) = refl
-    go (high h) = zero-or-more n h (eq-zero-or-pos f)
+    go : {s : Sum} → Capped n s → cap (getD (keptAs s) 0 0) ≡ s
+    go (low h) = cap-low n h
+    go (high h) = cap-high (limit + 1) (omega arith)
 
 -- A term under a test
 

@@ -7,7 +7,7 @@ ghost use mathlib.Core.Bool.{_&&_};
 ghost use Prim.Native.Nat.{_+_, _*_};
 ghost use lib.Dec.{leb};
 ghost use Rattle.capped.specs.declared.Sum.the-variants.{Exact};
-ghost use Rattle.capped.specs.Cap.{half, cap, plus, plusIf, both, times, order, over, told, word, netOf};
+ghost use Rattle.capped.specs.Cap.{half, cap, plus, plusIf, both, times, timesBoth, order, over, told, keptAs, keptSum, netOf};
 
 // The largest total that a capped sum holds, 2^62 - 1: `limit` in the specs.
 const LIMIT: u64 = 0x3fff_ffff_ffff_ffff;
@@ -19,6 +19,9 @@ pub enum Sum {
     Exact(u64),
     Over,
 }
+
+// A sum as a list keeps it, since a list of enums cannot be lent. What stands in it is known here alone: `keep` makes it, `sum_kept` reads it.
+pub type Kept = [u64; 1];
 
 // What a sum comes to.
 pub enum Amount {
@@ -128,6 +131,26 @@ pub fn scale(s: Sum, n: u64) -> Sum
     product(v, n)
 }
 
+// The product of two sums. A factor of 0 gives 0, also where the other is over.
+pub fn multiply(s: Sum, t: Sum) -> Sum
+    ensures { λ r. ⌜ r ≡ timesBoth s t ⌝ }
+{
+    match t {
+        Sum::Exact(n) => scale(s, n),
+        Sum::Over => match s {
+            Sum::Exact(v) => scale(t, v),
+            Sum::Over => Sum::Over,
+        },
+    }
+}
+
+// `n` times a sum, added to another.
+pub fn add_multiple(s: Sum, t: Sum, n: u64) -> Sum
+    ensures { λ r. ⌜ r ≡ both s (times t n) ⌝ }
+{
+    join(s, scale(t, n))
+}
+
 pub fn add_product(s: Sum, a: u64, b: u64) -> Sum
     ensures { λ r. ⌜ r ≡ plus s (a * b) ⌝ }
 {
@@ -227,14 +250,21 @@ pub fn difference(s: Sum, t: Sum) -> Balance
     net(s, zero(), t)
 }
 
-// A sum in one word, for a list of sums: one more than the limit where it is over.
-pub fn word_of(s: Sum) -> u64
-    ensures { λ r. ⌜ r ≡ word s ⌝ }
+// A sum as a list keeps it.
+pub fn keep(s: Sum) -> Kept
+    ensures { λ r. ⌜ r ≡ keptAs s ⌝ }
 {
     match s {
-        Sum::Exact(v) => v,
-        Sum::Over => LIMIT + 1,
+        Sum::Exact(v) => [v],
+        Sum::Over => [LIMIT + 1],
     }
+}
+
+// The sum that was kept.
+pub fn sum_kept(k: Kept) -> Sum
+    ensures { λ r. ⌜ r ≡ keptSum k ⌝ }
+{
+    of(k[0])
 }
 
 // A product added where a test holds: a loop with this call has one way through.

@@ -89,11 +89,11 @@ pub fn out_of_service(data: &[u32], at: &[usize; 43], c: Counts, y: usize, g: us
     ensures { λ r. ⌜ r ≡ outOfService (read (now («data» .entry))) y g ⌝ }
 {
     let year = by_plant(data, at, c, YEAR, g);
-    let now = long(y) + 1;
+    let this_year = long(y) + 1;
     if by_plant(data, at, c, KIND, g) == 0 {
-        return year <= now;
+        return year <= this_year;
     }
-    now < year
+    this_year < year
 }
 
 // Availability·Σ Dur of season q, family 10.

@@ -46,7 +46,7 @@ fn price(data: &[u32], scale: u32, plan: &[u32], at: &[usize; 43], cat: &[usize;
     requires { ⌜ Laid (now «data») (now at) c × ((dataFault (now «data») ≡ fine) × Planned (now plan) (now cat) c) ⌝ }
     ensures { λ r. ⌜ r ≡ rowsAndCost (read (now («data» .entry))) scale (planEntry c (now (plan .entry))) ⌝ }
 {
-    let mut energy = [0; 1280];
+    let mut energy = [capped::keep(capped::zero()); 1280];
     fill_energies(data, plan, at, cat, c, &mut energy);
     match test_rows(data, plan, &energy, at, cat, c, scale as u64) {
         Outcome::Fails(r) => return Answer::Refused(r),

@@ -2,6 +2,7 @@
 // Each by the place that `places` finds, for lists that passed the refusals before.
 use capped::Amount;
 use capped::Balance;
+use capped::Kept;
 use capped::Sum;
 use columns::Pair;
 use columns::column_sums;
@@ -71,7 +72,7 @@ fn told_sides(sides: Sides) -> RowFigures
 }
 
 // The two sums of the row at a place.
-fn sides_at(data: &[u32], plan: &[u32], energy: &[u64; 1280], at: &[usize; 43], cat: &[usize; 43], c: Counts, scale: u64, p: Place) -> Sides
+fn sides_at(data: &[u32], plan: &[u32], energy: &[Kept; 1280], at: &[usize; 43], cat: &[usize; 43], c: Counts, scale: u64, p: Place) -> Sides
     requires { ⌜ (Laid (now «data») (now at) c × ((entriesFault (read (now «data»)) ≡ fine) × (Planned (now plan) (now cat) c × Energies (read (now «data»)) (planEntry c (now plan)) (now energy) c)))
         × Member (rowBoxes c) (indexOf p) ⌝ }
     ensures { λ r. ⌜ r ≡ sidesOf (read (now («data» .entry))) scale (planEntry c (now (plan .entry))) (indexOf p) ⌝ }
@@ -90,7 +91,7 @@ pub fn row_figures(data: &[u32], scale: u32, plan: &[u32], p: Place) -> RowFigur
     let c = counts_of(data);
     let at = table_starts(c);
     let cat = column_starts(c);
-    let mut energy = [0; 1280];
+    let mut energy = [capped::keep(capped::zero()); 1280];
     fill_energies(data, plan, &at, &cat, c, &mut energy);
     told_sides(sides_at(data, plan, &energy, &at, &cat, c, scale as u64, p))
 }

@@ -1,19 +1,19 @@
 -- What the functions of the gap cite: a row's term, the families that are walked, what each of the five loops knows, and the answer.
 -- Assumes nothing.
 use mathlib.Core.Path.{_≡_, refl, sym, ap, _∙_}
-use mathlib.Core.Bool.{Bool, true, false, _&&_}
-use mathlib.Core.Logic.{⊎-elim}
+use mathlib.Core.Bool.{Bool, true, false, cond, _&&_}
 use mathlib.Core.List.{List}
 use Prim.Native.Nat.{ℕ, _+_, _*_, _-_, _≤_, _<_, zero-le}
 use native.Mathlib.Nat.{add-zero, zero-add, mul-zero, mul-comm, le-antisymm}
 use native.Mathlib.Omega.{arith}
-use lib.Dec.{leb}
+use lib.Dec.{leb, ltb}
 use lib.IntN.{ℤ, pos}
 use lib.ListN.{getD}
-use borrow.Author.Tests.{le-leb, lt-leb}
+use borrow.Author.Tests.{le-leb, ltb-true}
 use Rattle.capped.specs.declared.Sum.{Sum}
-use Rattle.capped.specs.Cap.{limit, cap, times, netOf}
-use Rattle.capped.proofs.Laws.{plus-cap, times-cap, cap-low, cap-high, le-net, lt-net, le-or-lt}
+use Rattle.capped.specs.declared.Balance.the-variants.{Unsure}
+use Rattle.capped.specs.Cap.{limit, cap, times, minus, netOf}
+use Rattle.capped.proofs.Laws.{plus-cap, times-cap, net-cap}
 use Rattle.sums.specs.declared.Box.{Box}
 use Rattle.sums.specs.Sum.{sum}
 use Rattle.sums.specs.Index.{Index, index, boxOf, number}
@@ -138,17 +138,23 @@ all-terms D ms e z h l =
 
 -- The answer
 
+-- a gap below zero counts as 0, as `-` of numbers has it
+cut-off : (c m n : ℕ) → settled c (minus m n) ≡ Issued c (m - n)
+unfolding settled
+cut-off c m n = go (ltb m n) refl
+  where
+    go : (b : Bool) → ltb m n ≡ b → settled c (minus m n) ≡ Issued c (m - n)
+    go true e = rw e (ap (Issued c) (omega (arith, ltb-true m n e)))
+    go false e = rw e
+
 pub settled-is : (c a b : ℕ) → c ≤ limit
     → settled c (netOf (cap c) (cap a) (cap b)) ≡ certificate (unless (leb a limit && leb b limit) GapOffScale) c (c + a - b)
-unfolding settled unless netOf
-settled-is c a b h =
-    ⊎-elim
-    (λ (p : a ≤ limit). ⊎-elim
-    (λ (q : b ≤ limit). ⊎-elim
-    (λ (w : b ≤ c + a). rw (le-net c a b h p q w, le-leb a limit p, le-leb b limit q))
-    (λ (w : c + a < b). rw (lt-net c a b h p q w, le-leb a limit p, le-leb b limit q) (ap (Issued c) (omega arith))) (le-or-lt b (c + a)))
-    (λ (q : limit < b). rw (cap-low c h, cap-low a p, cap-high b q, le-leb a limit p, lt-leb b limit q)) (le-or-lt b limit))
-    (λ (p : limit < a). rw (cap-low c h, cap-high a p, lt-leb a limit p)) (le-or-lt a limit)
+unfolding settled unless
+settled-is c a b h = rw (net-cap c a b, le-leb c limit h) (go (leb a limit && leb b limit))
+  where
+    go : (t : Bool) → settled c (cond t (minus (c + a) b) Unsure) ≡ certificate (unless t GapOffScale) c (c + a - b)
+    go true = cut-off c (c + a) b
+    go false = refl
 
 pub certified : (D : Data) (ms : List ℤ) (N c : ℕ) {up down : Sum} → c ≤ limit → up ≡ times (cap (constants⁺ D ms)) N → down ≡ times (cap (constants⁻ D ms)) N
     → settled c (netOf (cap c) up down) ≡ certificate (gapFault D ms N) c (gap D ms N c)

@@ -100,6 +100,7 @@ fn certificate_of(cost: u64, up: Sum, down: Sum) -> Certificate
     let left = capped::net(capped::of(cost), up, down);
     match left {
         Balance::Is(gap) => Certificate::Issued(cost, gap),
+        // Never reached where the plan passed: it is a rival of its own, so the gap is not below zero (`WholeGap`).
         Balance::BelowZero => Certificate::Issued(cost, 0),
         Balance::Unsure => Certificate::Withheld(Refusal::GapOffScale),
     }

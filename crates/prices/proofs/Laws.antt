@@ -3,15 +3,15 @@ use mathlib.Core.Path.{_≡_, refl, sym, _∙_, ap}
 use mathlib.Core.Bool.{not}
 use mathlib.Core.List.{List}
 use Prim.Native.Nat.{ℕ, _+_, _*_, _-_, _≤_, _<_}
-use native.Mathlib.Nat.{zero-add, add-zero, add-assoc, zero-mul, mul-one, mul-comm, mul-assoc, mul-left-comm, mul-pos}
+use native.Mathlib.Nat.{add-zero, add-assoc, zero-mul, mul-one, mul-comm, mul-assoc, mul-left-comm, mul-pos}
 use native.Mathlib.Omega.{arith}
 use lib.Dec.{eqb}
 use lib.ListN.{length, getD, take, drop, length-take, length-drop}
 use lib.Seq.{getD-take, getD-drop}
 use borrow.Author.Tests.{eq-eqb, ne-eqb}
 use Rattle.capped.specs.declared.Sum.{Sum}
-use Rattle.capped.specs.Cap.{cap, plus, both, times, word}
-use Rattle.capped.proofs.Laws.{plus-cap, both-cap, times-cap, plus-word}
+use Rattle.capped.specs.Cap.{cap, plus, both, times, timesBoth}
+use Rattle.capped.proofs.Laws.{plus-cap, both-cap, times-cap, times-both}
 use Rattle.sums.specs.Sum.{sum, on}
 use Rattle.sums.specs.Index.{Index, index, box, boxOf, inside}
 use Rattle.sums.proofs.ByKind.{_▹_}
@@ -26,11 +26,6 @@ use Rattle.tables.proofs.Laws.{columnPlace, column-below, column-is}
 use Rattle.prices.specs.Costs.{Hourly, Hours, gen, reserve, unmet, surplus, spinshort, setOf, firstsOf, hourPrice, unitPrice, hoursOf, slicesCost, hoursCost, yearCost}
 
 -- Capped sums
-
--- a capped sum as a factor, by its word
-pub times-word : (m n : ℕ) → times (cap m) (word (cap n)) ≡ cap (m * n)
-times-word m n =
-    times-cap m (word (cap n)) ∙ simp zero-add at (sym (plus-cap 0 (m * word (cap n))) ∙ plus-word 0 m n)
 
 pub joined : {r s t : Sum} (m n : ℕ) → r ≡ both s t → s ≡ cap m → t ≡ cap n → r ≡ cap (m + n)
 joined m n e p q = e ∙ rw (p, q) (both-cap m n)
@@ -109,10 +104,10 @@ module _ (D : Data) (c : Counts) (x : Index → ℕ) {t : ℕ} (h : Hourly t) (y
       sym (sum-scale (slicesOf c) perHour (λ s. duration D s * getD part s 0))
       ∙ sum-cong (slicesOf c) (λ s l. rw (e s l, hourly-price D h y i s) (simp (mul-comm, mul-assoc, mul-left-comm)))
 
-  pub hours-priced : {p q m r : Sum} {w k : ℕ} → w ≡ yearWeight D y → p ≡ cap (hourPrice D t y i) → q ≡ times p w
-      → m ≡ cap hours → k ≡ word m → r ≡ times q k → r ≡ cap (slicesCost D c x t y i)
-  hours-priced ew ep eq em ek er =
-      er ∙ rw (eq, ep, ew, ek, em, times-cap (hourPrice D t y i) (yearWeight D y)) (times-word perHour hours ∙ ap cap hours-cost)
+  pub hours-priced : {p q m r : Sum} {w : ℕ} → w ≡ yearWeight D y → p ≡ cap (hourPrice D t y i) → q ≡ times p w → m ≡ cap hours → r ≡ timesBoth q m
+      → r ≡ cap (slicesCost D c x t y i)
+  hours-priced ew ep eq em er =
+      er ∙ rw (eq, ep, ew, em, times-cap (hourPrice D t y i) (yearWeight D y)) (times-both perHour hours ∙ ap cap hours-cost)
 
 -- A column's price in two factors
 

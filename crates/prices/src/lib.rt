@@ -181,7 +181,7 @@ fn slices_cost(data: &[u32], plan: &[u32], at: &[usize; 43], cat: &[usize; 43], 
     let share = year_weight(data, at, c, y);
     let price = capped::scale(hour_price(data, at, c, t, y, i), share);
     let hours = weighted_hours(data, at, c, slices_at(plan, cat, c, t, y, i));
-    capped::scale(price, capped::word_of(hours))
+    capped::multiply(price, hours)
 }
 
 // Σ price·entry of a table priced by the hour, in year y.

@@ -23,7 +23,7 @@ use Rattle.energy.specs.Energies.{Energies}
 use Rattle.rows.specs.Ready.{Ready}
 
 -- what a row's test works on
-pub ready : {l plan os rs energy at cat : List ℕ} {c : Counts} {y places : ℕ}
+pub ready : {l plan os rs : List ℕ} {energy : List (List ℕ)} {at cat : List ℕ} {c : Counts} {y places : ℕ}
     → Laid l at c × ((entriesFault (read l) ≡ fine) × (Planned plan cat c × Energies (read l) (planEntry c plan) energy c)) → y < c .years
     → places ≡ c .plants * slicesOf c → os ≡ take places (drop (getD cat 3 0 + y * places) plan) → rs ≡ take places (drop (getD cat 4 0 + y * places) plan)
     → Ready l plan os rs energy at cat c y

@@ -1,4 +1,5 @@
 // The walk over all rows, in document 01's order, left at the first row not met: refusals 6 and 7.
+use capped::Kept;
 use capped::Order;
 use model::Counts;
 use model::Outcome;
@@ -44,13 +45,14 @@ fn verdict(sides: Sides, equal: bool, row: usize) -> Outcome
         }
         Order::Equal => Outcome::Fine,
         Order::Greater => Outcome::Fails(Refusal::Broken(row)),
+        // Never reached: neither sum is over here, and of two such sums the order is known (capped's law `order-unknown`).
         Order::Unknown => Outcome::Fails(Refusal::Broken(row)),
     }
 }
 
 // The test of one row, whose number is `row`. Whether its family is one of equalities is looked up once for the family, by the caller.
 fn test_row(
-    data: &[u32], plan: &[u32], outputs: &[u32], reserves: &[u32], energy: &[u64; 1280], at: &[usize; 43],
+    data: &[u32], plan: &[u32], outputs: &[u32], reserves: &[u32], energy: &[Kept; 1280], at: &[usize; 43],
     cat: &[usize; 43], c: Counts, scale: u64, k: usize, y: usize, i: usize, j: usize, s: usize, equal: bool, row: usize,
 ) -> Outcome
     requires { ⌜ Ready (now «data») (now plan) (now outputs) (now reserves) (now energy) (now at) (now cat) c y × ((k < 20) × (Inside c (familyOf k .set) y i j s × ((equal ≡ familyOf k .equal) × (row ≡ number (rowBoxes c) (index k y i j s))))) ⌝ }
@@ -61,7 +63,7 @@ fn test_row(
 }
 
 // Refusals 6 and 7.
-pub fn test_rows(data: &[u32], plan: &[u32], energy: &[u64; 1280], at: &[usize; 43], cat: &[usize; 43], c: Counts, scale: u64) -> Outcome
+pub fn test_rows(data: &[u32], plan: &[u32], energy: &[Kept; 1280], at: &[usize; 43], cat: &[usize; 43], c: Counts, scale: u64) -> Outcome
     requires { ⌜ Laid (now «data») (now at) c × ((entriesFault (read (now «data»)) ≡ fine) × (Planned (now plan) (now cat) c × Energies (read (now «data»)) (planEntry c (now plan)) (now energy) c)) ⌝ }
     ensures { λ r. ⌜ r ≡ outcome (rowsFault (read (now («data» .entry))) scale (planEntry c (now (plan .entry)))) ⌝ }
 {

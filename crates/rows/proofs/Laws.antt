@@ -119,7 +119,7 @@ zone-slice hy hz hs = record { year = hy; «first» = hz; second = omega arith; 
 -- The dispatcher: what an arm knows of the four indices, by its key
 
 -- the arms of the families with a year, a first index and a slice, and of those with a year and a first index
-module _ {l plan os rs energy at cat : List ℕ} {c : Counts} {k y i j s : ℕ} (K : ℕ) (e : k ≡ K)
+module _ {l plan os rs : List ℕ} {energy : List (List ℕ)} {at cat : List ℕ} {c : Counts} {k y i j s : ℕ} (K : ℕ) (e : k ≡ K)
     (p : Ready l plan os rs energy at cat c y × ((k < 20) × Inside c (familyOf k .set) y i j s)) where
   abbrev own : Box
   own = boxOf (sets c) (familyOf K .set)
@@ -131,6 +131,6 @@ module _ {l plan os rs energy at cat : List ℕ} {c : Counts} {k y i j s : ℕ} 
   by-first = let m = inside-at K e (p .1 .1) in (p .0, (m .year, m .first))
 
 -- what the row functions of families 15 and 18, which have no year, work on
-pub first-year : {l plan os rs energy at cat : List ℕ} {c : Counts} {y : ℕ} → y < 1 → Ready l plan os rs energy at cat c y
+pub first-year : {l plan os rs : List ℕ} {energy : List (List ℕ)} {at cat : List ℕ} {c : Counts} {y : ℕ} → y < 1 → Ready l plan os rs energy at cat c y
     → Ready l plan os rs energy at cat c 0
 first-year {y = y} h r = let z : y ≡ 0 = omega arith in rw z at r

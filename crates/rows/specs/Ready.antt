@@ -17,7 +17,7 @@ use Rattle.constants.specs.declared.Constant.{Constant}
 use Rattle.rows.specs.declared.Sides.{Sides}
 
 -- data and plan as laid out and tested, and the parts made of them
-pub record Ready (l plan os rs energy at cat : List ℕ) (c : Counts) (y : ℕ) : Type 0 where
+pub record Ready (l plan os rs : List ℕ) (energy : List (List ℕ)) (at cat : List ℕ) (c : Counts) (y : ℕ) : Type 0 where
   pub laid : Laid l at c
   pub sound : entriesFault (read l) ≡ fine
   pub planned : Planned plan cat c

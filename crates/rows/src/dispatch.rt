@@ -1,6 +1,7 @@
 // Families 5 to 11: the rows of a plant's dispatch.
 use crate::Sides;
 use crate::two_sums::empty;
+use capped::Kept;
 use energy::totals::energy_at;
 use model::Counts;
 use parts::slices::day_of;
@@ -33,7 +34,7 @@ ghost use Rattle.rows.specs.Ready.{Ready, sidesOf};
 
 // 5 (22): 1000·(gen + reserve) ≤ (1000 + OverLoad)·cap
 pub fn loading(
-    data: &[u32], plan: &[u32], outputs: &[u32], reserves: &[u32], energy: &[u64; 1280], at: &[usize; 43],
+    data: &[u32], plan: &[u32], outputs: &[u32], reserves: &[u32], energy: &[Kept; 1280], at: &[usize; 43],
     cat: &[usize; 43], c: Counts, scale: u64, y: usize, g: usize, s: usize,
 ) -> Sides
     requires { ⌜ Ready (now «data») (now plan) (now outputs) (now reserves) (now energy) (now at) (now cat) c y × ((y < c .years) × ((g < c .plants) × (s < slicesOf c))) ⌝ }
@@ -50,7 +51,7 @@ pub fn loading(
 
 // 6 (23): 1000·reserve ≤ ResOffer·cap
 pub fn offer(
-    data: &[u32], plan: &[u32], outputs: &[u32], reserves: &[u32], energy: &[u64; 1280], at: &[usize; 43],
+    data: &[u32], plan: &[u32], outputs: &[u32], reserves: &[u32], energy: &[Kept; 1280], at: &[usize; 43],
     cat: &[usize; 43], c: Counts, scale: u64, y: usize, g: usize, s: usize,
 ) -> Sides
     requires { ⌜ Ready (now «data») (now plan) (now outputs) (now reserves) (now energy) (now at) (now cat) c y × ((y < c .years) × ((g < c .plants) × (s < slicesOf c))) ⌝ }
@@ -68,7 +69,7 @@ pub fn offer(
 
 // 7 (24), t > 0: 1000·(gen[s−1] − gen[s]) ≤ RampDn·cap
 pub fn ramp_down(
-    data: &[u32], plan: &[u32], outputs: &[u32], reserves: &[u32], energy: &[u64; 1280], at: &[usize; 43],
+    data: &[u32], plan: &[u32], outputs: &[u32], reserves: &[u32], energy: &[Kept; 1280], at: &[usize; 43],
     cat: &[usize; 43], c: Counts, scale: u64, y: usize, g: usize, s: usize,
 ) -> Sides
     requires { ⌜ Ready (now «data») (now plan) (now outputs) (now reserves) (now energy) (now at) (now cat) c y × ((y < c .years) × ((g < c .plants) × (s < slicesOf c))) ⌝ }
@@ -90,7 +91,7 @@ pub fn ramp_down(
 
 // 8 (25), t > 0: 1000·(gen[s] − gen[s−1]) ≤ RampUp·cap
 pub fn ramp_up(
-    data: &[u32], plan: &[u32], outputs: &[u32], reserves: &[u32], energy: &[u64; 1280], at: &[usize; 43],
+    data: &[u32], plan: &[u32], outputs: &[u32], reserves: &[u32], energy: &[Kept; 1280], at: &[usize; 43],
     cat: &[usize; 43], c: Counts, scale: u64, y: usize, g: usize, s: usize,
 ) -> Sides
     requires { ⌜ Ready (now «data») (now plan) (now outputs) (now reserves) (now energy) (now at) (now cat) c y × ((y < c .years) × ((g < c .plants) × (s < slicesOf c))) ⌝ }
@@ -112,7 +113,7 @@ pub fn ramp_up(
 
 // 9 (26), minimum-load days: 1000·gen ≥ MinCapFac·cap
 pub fn minimum_load(
-    data: &[u32], plan: &[u32], outputs: &[u32], reserves: &[u32], energy: &[u64; 1280], at: &[usize; 43],
+    data: &[u32], plan: &[u32], outputs: &[u32], reserves: &[u32], energy: &[Kept; 1280], at: &[usize; 43],
     cat: &[usize; 43], c: Counts, scale: u64, y: usize, g: usize, s: usize,
 ) -> Sides
     requires { ⌜ Ready (now «data») (now plan) (now outputs) (now reserves) (now energy) (now at) (now cat) c y × ((y < c .years) × ((g < c .plants) × (s < slicesOf c))) ⌝ }
@@ -133,7 +134,7 @@ pub fn minimum_load(
 
 // 10 (27): 1000·Σ Dur·gen ≤ Availability·(Σ Dur)·cap, over the season
 pub fn available(
-    data: &[u32], plan: &[u32], outputs: &[u32], reserves: &[u32], energy: &[u64; 1280], at: &[usize; 43],
+    data: &[u32], plan: &[u32], outputs: &[u32], reserves: &[u32], energy: &[Kept; 1280], at: &[usize; 43],
     cat: &[usize; 43], c: Counts, scale: u64, y: usize, g: usize, q: usize,
 ) -> Sides
     requires { ⌜ Ready (now «data») (now plan) (now outputs) (now reserves) (now energy) (now at) (now cat) c y × ((y < c .years) × ((g < c .plants) × (q < c .seasons))) ⌝ }
@@ -148,13 +149,13 @@ pub fn available(
     );
     Sides {
         above,
-        below: capped::product(1000, energy_at(energy, c, y, g, q)),
+        below: capped::scale(energy_at(energy, c, y, g, q), 1000),
     }
 }
 
 // 11 (28), VRE: 1000·gen ≤ Profile·cap
 pub fn profiled(
-    data: &[u32], plan: &[u32], outputs: &[u32], reserves: &[u32], energy: &[u64; 1280], at: &[usize; 43],
+    data: &[u32], plan: &[u32], outputs: &[u32], reserves: &[u32], energy: &[Kept; 1280], at: &[usize; 43],
     cat: &[usize; 43], c: Counts, scale: u64, y: usize, g: usize, s: usize,
 ) -> Sides
     requires { ⌜ Ready (now «data») (now plan) (now outputs) (now reserves) (now energy) (now at) (now cat) c y × ((y < c .years) × ((g < c .plants) × (s < slicesOf c))) ⌝ }

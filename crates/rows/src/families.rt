@@ -20,6 +20,7 @@ use crate::zones::balance;
 use crate::zones::firm;
 use crate::zones::spinning;
 use crate::zones::transfer;
+use capped::Kept;
 use model::Counts;
 ghost use mathlib.Core.Path.{_≡_};
 ghost use Prim.Native.Nat.{_<_};
@@ -31,7 +32,7 @@ ghost use Rattle.rows.specs.Ready.{Ready, sidesOf};
 
 // Family `k`, counted from 0, year `y`, first index `i`, second index `j` and slice `s`.
 pub fn row_sides(
-    data: &[u32], plan: &[u32], outputs: &[u32], reserves: &[u32], energy: &[u64; 1280], at: &[usize; 43],
+    data: &[u32], plan: &[u32], outputs: &[u32], reserves: &[u32], energy: &[Kept; 1280], at: &[usize; 43],
     cat: &[usize; 43], c: Counts, scale: u64, k: usize, y: usize, i: usize, j: usize, s: usize,
 ) -> Sides
     requires { ⌜ Ready (now «data») (now plan) (now outputs) (now reserves) (now energy) (now at) (now cat) c y × ((k < 20) × Inside c (familyOf k .set) y i j s) ⌝ }

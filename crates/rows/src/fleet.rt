@@ -2,6 +2,7 @@
 use crate::Sides;
 use crate::two_sums::empty;
 use crate::two_sums::with_constant;
+use capped::Kept;
 use capped::Sum;
 use constants::fleet::capital_constant;
 use constants::fleet::fuel_use_constant;
@@ -38,7 +39,7 @@ ghost use Rattle.rows.specs.Ready.{Ready, sidesOf};
 
 // 12 (34): existing, first year: cap = GenCap; later: cap = earlier cap − retire. Candidate: cap = earlier cap (0 in the first year) + build
 pub fn stock(
-    data: &[u32], plan: &[u32], outputs: &[u32], reserves: &[u32], energy: &[u64; 1280], at: &[usize; 43],
+    data: &[u32], plan: &[u32], outputs: &[u32], reserves: &[u32], energy: &[Kept; 1280], at: &[usize; 43],
     cat: &[usize; 43], c: Counts, scale: u64, y: usize, g: usize,
 ) -> Sides
     requires { ⌜ Ready (now «data») (now plan) (now outputs) (now reserves) (now energy) (now at) (now cat) c y × ((y < c .years) × (g < c .plants)) ⌝ }
@@ -67,7 +68,7 @@ pub fn stock(
 
 // 13 (37): cap ≤ 0 for an existing plant from its retirement year on, for a candidate before its commission year
 pub fn life(
-    data: &[u32], plan: &[u32], outputs: &[u32], reserves: &[u32], energy: &[u64; 1280], at: &[usize; 43],
+    data: &[u32], plan: &[u32], outputs: &[u32], reserves: &[u32], energy: &[Kept; 1280], at: &[usize; 43],
     cat: &[usize; 43], c: Counts, scale: u64, y: usize, g: usize,
 ) -> Sides
     requires { ⌜ Ready (now «data») (now plan) (now outputs) (now reserves) (now energy) (now at) (now cat) c y × ((y < c .years) × (g < c .plants)) ⌝ }
@@ -88,7 +89,7 @@ pub fn life(
 
 // 14 (61): existing: in the first year build + retire ≤ 0, later build ≤ 0; candidate: retire ≤ 0
 pub fn fixed(
-    data: &[u32], plan: &[u32], outputs: &[u32], reserves: &[u32], energy: &[u64; 1280], at: &[usize; 43],
+    data: &[u32], plan: &[u32], outputs: &[u32], reserves: &[u32], energy: &[Kept; 1280], at: &[usize; 43],
     cat: &[usize; 43], c: Counts, scale: u64, y: usize, g: usize,
 ) -> Sides
     requires { ⌜ Ready (now «data») (now plan) (now outputs) (now reserves) (now energy) (now at) (now cat) c y × ((y < c .years) × (g < c .plants)) ⌝ }
@@ -110,7 +111,7 @@ pub fn fixed(
 
 // 15 (55), candidate: Σ build ≤ MaxNewCap
 pub fn new_capacity(
-    data: &[u32], plan: &[u32], outputs: &[u32], reserves: &[u32], energy: &[u64; 1280], at: &[usize; 43],
+    data: &[u32], plan: &[u32], outputs: &[u32], reserves: &[u32], energy: &[Kept; 1280], at: &[usize; 43],
     cat: &[usize; 43], c: Counts, scale: u64, g: usize,
 ) -> Sides
     requires { ⌜ Ready (now «data») (now plan) (now outputs) (now reserves) (now energy) (now at) (now cat) c 0 × (g < c .plants) ⌝ }
@@ -129,7 +130,7 @@ pub fn new_capacity(
 
 // 16 (58), candidate: build ≤ BuildLimit·V
 pub fn yearly_build(
-    data: &[u32], plan: &[u32], outputs: &[u32], reserves: &[u32], energy: &[u64; 1280], at: &[usize; 43],
+    data: &[u32], plan: &[u32], outputs: &[u32], reserves: &[u32], energy: &[Kept; 1280], at: &[usize; 43],
     cat: &[usize; 43], c: Counts, scale: u64, y: usize, g: usize,
 ) -> Sides
     requires { ⌜ Ready (now «data») (now plan) (now outputs) (now reserves) (now energy) (now at) (now cat) c y × ((y < c .years) × (g < c .plants)) ⌝ }
@@ -148,7 +149,7 @@ pub fn yearly_build(
 
 // 17 (62): Σ Dur·HeatRate·gen of that zone and fuel ≤ 1000·MaxFuel
 pub fn fuel_use(
-    data: &[u32], plan: &[u32], outputs: &[u32], reserves: &[u32], energy: &[u64; 1280], at: &[usize; 43],
+    data: &[u32], plan: &[u32], outputs: &[u32], reserves: &[u32], energy: &[Kept; 1280], at: &[usize; 43],
     cat: &[usize; 43], c: Counts, scale: u64, y: usize, z: usize, f: usize,
 ) -> Sides
     requires { ⌜ Ready (now «data») (now plan) (now outputs) (now reserves) (now energy) (now at) (now cat) c y × ((y < c .years) × ((z < c .zones) × (f < c .fuels))) ⌝ }
@@ -164,7 +165,7 @@ pub fn fuel_use(
 
 // 18 (64): Σ R·V·Annuity·cap of candidates ≤ 10⁹·MaxCapital
 pub fn capital(
-    data: &[u32], plan: &[u32], outputs: &[u32], reserves: &[u32], energy: &[u64; 1280], at: &[usize; 43],
+    data: &[u32], plan: &[u32], outputs: &[u32], reserves: &[u32], energy: &[Kept; 1280], at: &[usize; 43],
     cat: &[usize; 43], c: Counts, scale: u64,
 ) -> Sides
     requires { ⌜ Ready (now «data») (now plan) (now outputs) (now reserves) (now energy) (now at) (now cat) c 0 ⌝ }
@@ -180,7 +181,7 @@ pub fn capital(
 
 // 19 (66): Σ Dur·E·gen in z ≤ 1000·zone cap
 pub fn zone_emission(
-    data: &[u32], plan: &[u32], outputs: &[u32], reserves: &[u32], energy: &[u64; 1280], at: &[usize; 43],
+    data: &[u32], plan: &[u32], outputs: &[u32], reserves: &[u32], energy: &[Kept; 1280], at: &[usize; 43],
     cat: &[usize; 43], c: Counts, scale: u64, y: usize, z: usize,
 ) -> Sides
     requires { ⌜ Ready (now «data») (now plan) (now outputs) (now reserves) (now energy) (now at) (now cat) c y × ((y < c .years) × (z < c .zones)) ⌝ }
@@ -196,7 +197,7 @@ pub fn zone_emission(
 
 // 20 (68): Σ Dur·E·gen ≤ 1000·system cap
 pub fn system_emission(
-    data: &[u32], plan: &[u32], outputs: &[u32], reserves: &[u32], energy: &[u64; 1280], at: &[usize; 43],
+    data: &[u32], plan: &[u32], outputs: &[u32], reserves: &[u32], energy: &[Kept; 1280], at: &[usize; 43],
     cat: &[usize; 43], c: Counts, scale: u64, y: usize,
 ) -> Sides
     requires { ⌜ Ready (now «data») (now plan) (now outputs) (now reserves) (now energy) (now at) (now cat) c y × (y < c .years) ⌝ }
@@ -226,9 +227,9 @@ fn in_service(kind: u64, year: u64, y: usize) -> bool
     requires { ⌜ y < 10 ⌝ }
     ensures { λ r. ⌜ r ≡ not ((eqb kind 0 && leb year (y + 1)) || (not (eqb kind 0) && ltb (y + 1) year)) ⌝ }
 {
-    let now = long(y) + 1;
+    let this_year = long(y) + 1;
     if kind == 0 {
-        return now < year;
+        return this_year < year;
     }
-    year <= now
+    year <= this_year
 }

@@ -1,6 +1,7 @@
 // Families 1 to 4: the rows of a zone.
 use crate::Sides;
 use crate::two_sums::with_constant;
+use capped::Kept;
 use constants::zones::balance_constant;
 use constants::zones::firm_constant;
 use constants::zones::spinning_constant;
@@ -33,7 +34,7 @@ ghost use Rattle.rows.specs.Ready.{Ready, sidesOf};
 
 // 1 (14): 1000·Σ gen in z − 1000·Σ trans[z,z2] + Σ (1000 − Loss[z2,z])·trans[z2,z] + unmet − surplus = Demand·EE
 pub fn balance(
-    data: &[u32], plan: &[u32], outputs: &[u32], reserves: &[u32], energy: &[u64; 1280], at: &[usize; 43],
+    data: &[u32], plan: &[u32], outputs: &[u32], reserves: &[u32], energy: &[Kept; 1280], at: &[usize; 43],
     cat: &[usize; 43], c: Counts, scale: u64, y: usize, z: usize, s: usize,
 ) -> Sides
     requires { ⌜ Ready (now «data») (now plan) (now outputs) (now reserves) (now energy) (now at) (now cat) c y × ((y < c .years) × ((z < c .zones) × (s < slicesOf c))) ⌝ }
@@ -56,7 +57,7 @@ pub fn balance(
 
 // 2 (15): trans ≤ TL
 pub fn transfer(
-    data: &[u32], plan: &[u32], outputs: &[u32], reserves: &[u32], energy: &[u64; 1280], at: &[usize; 43],
+    data: &[u32], plan: &[u32], outputs: &[u32], reserves: &[u32], energy: &[Kept; 1280], at: &[usize; 43],
     cat: &[usize; 43], c: Counts, scale: u64, y: usize, z: usize, w: usize, s: usize,
 ) -> Sides
     requires { ⌜ Ready (now «data») (now plan) (now outputs) (now reserves) (now energy) (now at) (now cat) c y × ((y < c .years) × ((z < c .zones) × ((w < c .zones) × (s < slicesOf c)))) ⌝ }
@@ -68,7 +69,7 @@ pub fn transfer(
 
 // 3 (19): 1000·Σ reserve in z + spinshort + 1000·Σ (TL[z2,z] − trans[z2,z]) ≥ 1000·SRes + Err·Σ gen of VRE in z
 pub fn spinning(
-    data: &[u32], plan: &[u32], outputs: &[u32], reserves: &[u32], energy: &[u64; 1280], at: &[usize; 43],
+    data: &[u32], plan: &[u32], outputs: &[u32], reserves: &[u32], energy: &[Kept; 1280], at: &[usize; 43],
     cat: &[usize; 43], c: Counts, scale: u64, y: usize, z: usize, s: usize,
 ) -> Sides
     requires { ⌜ Ready (now «data») (now plan) (now outputs) (now reserves) (now energy) (now at) (now cat) c y × ((y < c .years) × ((z < c .zones) × (s < slicesOf c))) ⌝ }
@@ -90,7 +91,7 @@ pub fn spinning(
 
 // 4 (21): Σ CapCredit·cap + firmshort + 1000·Σ TL[z2,z] over z2 and all seasons ≥ (1000 + PRM)·peak
 pub fn firm(
-    data: &[u32], plan: &[u32], outputs: &[u32], reserves: &[u32], energy: &[u64; 1280], at: &[usize; 43],
+    data: &[u32], plan: &[u32], outputs: &[u32], reserves: &[u32], energy: &[Kept; 1280], at: &[usize; 43],
     cat: &[usize; 43], c: Counts, scale: u64, y: usize, z: usize,
 ) -> Sides
     requires { ⌜ Ready (now «data») (now plan) (now outputs) (now reserves) (now energy) (now at) (now cat) c y × ((y < c .years) × (z < c .zones)) ⌝ }

@@ -4,12 +4,18 @@ use borrow.Author.Needs.{needs}
 use Rattle.epm.proofs.price.Statement.{statement}
 use Rattle.epm.proofs.price.Tie as tie
 
+zero-requires : tie.Need-zero-requires
+zero-requires c κs = search needs
+
+keep-requires : tie.Need-keep-requires
+keep-requires c κs = search needs
+
 fill-energies-requires : tie.Need-fill-energies-requires
 fill-energies-requires c κs = search needs
 
 test-rows-requires : tie.Need-test-rows-requires
 test-rows-requires c κs =
-    let p = c .before .before .before .before .before .pre in
+    let p = c .before .before .before .before .before .before .before .pre in
     (p .0, (sound-entries _ (p .1 .0), (p .1 .1, c .before .fill-energies .ensures)))
 
 enum-known-r : tie.Need-enum-known-r
@@ -49,6 +55,8 @@ pub price-spec : {M : Type 1} → statement M
 price-spec =
     tie.close
     (tie.spec
+    zero-requires
+    keep-requires
     fill-energies-requires
     test-rows-requires
     enum-known-r

@@ -16,20 +16,26 @@ table-starts-requires c κs = counts-sound _ (c .before .before .before .pre .0)
 column-starts-requires : tie.Need-column-starts-requires
 column-starts-requires c κs = counts-sound _ (c .before .before .before .before .pre .0) (c .before .counts-of .ensures)
 
+zero-requires : tie.Need-zero-requires
+zero-requires c κs = search needs
+
+keep-requires : tie.Need-keep-requires
+keep-requires c κs = search needs
+
 fill-energies-requires : tie.Need-fill-energies-requires
 fill-energies-requires c κs =
-    let a = c .before .before .before .before .before .before .before .before in
+    let a = c .before .before .before .before .before .before .before .before .before .before in
     let l = a .args .«data» .now in
-    let counts = c .before .before .before .before .before .counts-of .ensures in
-    (sound-laid l (a .pre .0) _ counts (c .before .before .before .before .table-starts .ensures .1), (plan-laid l counts (a .pre .1 .0) (c .before .before .before .column-starts .ensures .1), search needs))
+    let counts = c .before .before .before .before .before .before .before .counts-of .ensures in
+    (sound-laid l (a .pre .0) _ counts (c .before .before .before .before .before .before .table-starts .ensures .1), (plan-laid l counts (a .pre .1 .0) (c .before .before .before .before .before .column-starts .ensures .1), search needs))
 
 sides-at-requires : tie.Need-sides-at-requires
 sides-at-requires c κs =
-    let a = c .before .before .before .before .before .before .before .before .before .before .before .before in
+    let a = c .before .before .before .before .before .before .before .before .before .before .before .before .before .before in
     let l = a .args .«data» .now in
-    let counts = c .before .before .before .before .before .before .before .before .before .counts-of .ensures in
-    let laid = sound-laid l (a .pre .0) _ counts (c .before .before .before .before .before .before .before .before .table-starts .ensures .1) in
-    let planned = plan-laid l counts (a .pre .1 .0) (c .before .before .before .before .before .before .before .column-starts .ensures .1) in
+    let counts = c .before .before .before .before .before .before .before .before .before .before .before .counts-of .ensures in
+    let laid = sound-laid l (a .pre .0) _ counts (c .before .before .before .before .before .before .before .before .before .before .table-starts .ensures .1) in
+    let planned = plan-laid l counts (a .pre .1 .0) (c .before .before .before .before .before .before .before .before .before .column-starts .ensures .1) in
     ((laid, (sound-entries l (a .pre .0), (planned, c .before .before .before .fill-energies .ensures))), counted-alike rowBoxes (indexOf (a .args .p)) (counts-read l counts) (a .pre .1 .1))
 
 told-sides-requires : tie.Need-told-sides-requires
@@ -37,8 +43,8 @@ told-sides-requires c κs = search needs
 
 returns : tie.Need-returns
 returns c =
-    let a = c .before .before .before .before .before .before .before .before .before .before .before .before .before .before .args in
-    row-told (a .«data» .now) (a .plan .now) (a .scale) (indexOf (a .p)) (c .before .before .before .before .before .before .before .before .before .before .before .counts-of .ensures) (c .before .sides-at .ensures) (c .told-sides .ensures)
+    let a = c .before .before .before .before .before .before .before .before .before .before .before .before .before .before .before .before .args in
+    row-told (a .«data» .now) (a .plan .now) (a .scale) (indexOf (a .p)) (c .before .before .before .before .before .before .before .before .before .before .before .before .before .counts-of .ensures) (c .before .sides-at .ensures) (c .told-sides .ensures)
 
 pub row-figures-spec : {M : Type 1} → statement M
 row-figures-spec =
@@ -47,6 +53,8 @@ row-figures-spec =
     counts-of-requires
     table-starts-requires
     column-starts-requires
+    zero-requires
+    keep-requires
     fill-energies-requires
     sides-at-requires
     told-sides-requires

@@ -19,23 +19,19 @@ slices-at-requires c κs = search needs
 weighted-hours-requires : tie.Need-weighted-hours-requires
 weighted-hours-requires c κs = search needs
 
-word-of-requires : tie.Need-word-of-requires
-word-of-requires c κs = search needs
-
-scale-requires-2 : tie.Need-scale-requires-2
-scale-requires-2 c κs = search needs
+multiply-requires : tie.Need-multiply-requires
+multiply-requires c κs = search needs
 
 returns : tie.Need-returns
 returns c =
-    let p = c .before .before .before in
+    let p = c .before .before in
     let b = p .before .before .before .before .before .before in
     hours-priced _ (b .args .c) (planEntry (b .args .c) (b .args .plan .now)) (b .pre .1 .table) _ _ (p .slices-at .result .now) (p .slices-at .ensures .1)
     (p .before .before .before .year-weight .ensures)
     (p .before .before .hour-price .ensures)
     (p .before .scale .ensures)
-    (c .before .before .weighted-hours .ensures)
-    (c .before .word-of .ensures)
-    (c .scale2 .ensures)
+    (c .before .weighted-hours .ensures)
+    (c .multiply .ensures)
 
 pub slices-cost-spec : {M : Type 1} → statement M
 slices-cost-spec =
@@ -46,6 +42,5 @@ slices-cost-spec =
     scale-requires
     slices-at-requires
     weighted-hours-requires
-    word-of-requires
-    scale-requires-2
+    multiply-requires
     returns)

@@ -10,8 +10,8 @@ by-plant-requires c κs = search needs
 long-requires : tie.Need-long-requires
 long-requires c κs = search needs
 
-add-now : tie.Need-add-now
-add-now c = search needs
+add-this-year : tie.Need-add-this-year
+add-this-year c = search needs
 
 by-plant-requires-2 : tie.Need-by-plant-requires-2
 by-plant-requires-2 c κs = search needs
@@ -29,4 +29,4 @@ returns-2 c =
 pub out-of-service-spec : {M : Type 1} → statement M
 out-of-service-spec =
     tie.close
-    (tie.spec by-plant-requires long-requires add-now by-plant-requires-2 returns returns-2)
+    (tie.spec by-plant-requires long-requires add-this-year by-plant-requires-2 returns returns-2)

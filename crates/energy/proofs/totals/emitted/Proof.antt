@@ -1,23 +1,22 @@
-use mathlib.Core.Path.{_≡_, refl}
+use mathlib.Core.Path.{_≡_, _∙_, refl}
 use mathlib.Core.List.{List}
 use Prim.Native.Nat.{ℕ, _-_, _≤_}
 use native.Mathlib.Omega.{arith}
 use borrow.Author.Needs.{needs}
-use Rattle.capped.specs.Cap.{cap}
-use Rattle.sums.specs.Sum.{sum}
+use Rattle.capped.specs.declared.Sum.{Sum}
 use Rattle.model.specs.declared.Counts.{Counts}
 use Rattle.model.specs.Data.{read, emission}
-use Rattle.energy.specs.Energies.{yearEnergy}
-use Rattle.energy.proofs.Laws.{added, ended, plant-read}
+use Rattle.energy.specs.Energies.{allOf, yearEnergy}
+use Rattle.energy.proofs.Laws.{all-more, all-done, plant-read}
 use Rattle.energy.proofs.totals.emitted.Statement.{statement}
 use Rattle.energy.proofs.totals.emitted.Tie as tie
 
 -- what plant g adds
-abbrev emittedBy : List ℕ → Counts → List ℕ → ℕ → ℕ → ℕ
+abbrev emittedBy : List ℕ → Counts → List (List ℕ) → ℕ → ℕ → Sum
 emittedBy «data» c energy y g = yearEnergy c energy (emission (read «data») g) y g
 
 abbrev Inv-loop : tie.InvT-loop
-Inv-loop «data» at c energy y total₀ g₀ g-end total g = (g ≤ c .plants) × (total ≡ cap (sum g (emittedBy «data» c energy y)))
+Inv-loop «data» at c energy y total₀ g₀ g-end total g = (g ≤ c .plants) × (total ≡ allOf g (emittedBy «data» c energy y))
 
 abbrev μ-loop : tie.MeasureT-loop
 μ-loop «data» at c energy y total₀ g₀ g-end total g = c .plants - g
@@ -26,14 +25,17 @@ zero-requires : tie.Need-zero-requires Inv-loop μ-loop
 zero-requires c κs = search needs
 
 loop-holds : tie.Need-loop-holds Inv-loop μ-loop
-unfolding sum
+unfolding allOf
 loop-holds c = (search needs, c .zero .ensures)
 
 by-plant-requires : tie.Need-by-plant-requires Inv-loop μ-loop
 by-plant-requires c κs = plant-read (c .before .before .before .before .pre .0) (omega arith) refl (c .loop-test .taken)
 
-add-energy-if-requires : tie.Need-add-energy-if-requires Inv-loop μ-loop
-add-energy-if-requires c κs = let p = c .before .before .before .before .before .pre in (p .0 .counted, (p .1 .0, (p .1 .1, c .before .loop-test .taken)))
+energy-if-requires : tie.Need-energy-if-requires Inv-loop μ-loop
+energy-if-requires c κs = let p = c .before .before .before .before .before .pre in (p .0 .counted, (p .1 .0, (p .1 .1, c .before .loop-test .taken)))
+
+join-requires : tie.Need-join-requires Inv-loop μ-loop
+join-requires c κs = search needs
 
 add-g : tie.Need-add-g Inv-loop μ-loop
 add-g c = search needs
@@ -43,16 +45,16 @@ loop-less c = search needs
 
 loop-again : tie.Need-loop-again Inv-loop μ-loop
 loop-again c =
-    let l = c .before .before .before in
+    let l = c .before .before .before .before in
     let a = l .before .before .before .args in
     let f = emittedBy (a .«data» .now) (a .c) (a .energy .now) (a .y) in
-    (search needs, added (l .loop .g) f (c .add-energy-if .ensures) (l .loop .inv .1) (rw (c .before .by-plant .ensures .0)))
+    (search needs, all-more (l .loop .g) f (c .join .ensures) (l .loop .inv .1) (c .before .energy-if .ensures ∙ rw (c .before .before .by-plant .ensures .0)))
 
 returns : tie.Need-returns Inv-loop μ-loop
 returns c =
     let l = c .before .loop in
     let a = c .before .before .before .before .args in
-    ended (emittedBy (a .«data» .now) (a .c) (a .energy .now) (a .y)) (l .inv .1) (omega arith)
+    all-done (emittedBy (a .«data» .now) (a .c) (a .energy .now) (a .y)) (l .inv .1) (omega arith)
 
 pub emitted-spec : {M : Type 1} → statement M
 emitted-spec =
@@ -63,7 +65,8 @@ emitted-spec =
     zero-requires
     loop-holds
     by-plant-requires
-    add-energy-if-requires
+    energy-if-requires
+    join-requires
     add-g
     loop-less
     loop-again

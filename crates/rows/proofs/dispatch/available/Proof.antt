@@ -3,7 +3,7 @@ use Rattle.model.specs.Data.{read, duration}
 use Rattle.model.specs.Families.{available}
 use Rattle.energy.proofs.Laws.{season-is, available-energy}
 use Rattle.rows.specs.Ready.{sidesOf}
-use Rattle.rows.proofs.Laws.{plain, product-is, product3-is}
+use Rattle.rows.proofs.Laws.{plain, product3-is}
 use borrow.Author.Needs.{needs}
 use Rattle.rows.proofs.dispatch.available.Statement.{statement}
 use Rattle.rows.proofs.dispatch.available.Tie as tie
@@ -26,8 +26,8 @@ add-product3-requires c κs = search needs
 energy-at-requires : tie.Need-energy-at-requires
 energy-at-requires c κs = search needs
 
-product-requires : tie.Need-product-requires
-product-requires c κs = search needs
+scale-requires : tie.Need-scale-requires
+scale-requires c κs = search needs
 
 returns : tie.Need-returns
 unfolding sidesOf available
@@ -40,7 +40,7 @@ returns c =
     plain _ _ _
     (product3-is (c .before .before .add-product3 .ensures) (c4 .before .zero .ensures) (c4 .before .before .by-plant-season .ensures .0)
     (c4 .season-hours .ensures .0 ∙ season-is D _ (λ s. duration D s) n refl) (c .before .before .before .planned-by-year-plant .ensures .0))
-    (product-is (c .product .ensures) refl (c .before .energy-at .ensures) ∙ available-energy (p .0 .energies) n (p .1 .0) _ _ (p .1 .1 .0) (p .1 .1 .1))
+    (c .scale .ensures ∙ rw (c .before .energy-at .ensures) (available-energy (p .0 .energies) n (p .1 .0) _ _ (p .1 .1 .0) (p .1 .1 .1)))
 
 pub available-spec : {M : Type 1} → statement M
 available-spec =
@@ -52,5 +52,5 @@ available-spec =
     planned-by-year-plant-requires
     add-product3-requires
     energy-at-requires
-    product-requires
+    scale-requires
     returns)
