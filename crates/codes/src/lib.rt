@@ -19,7 +19,7 @@ pub fn code_of(refusal: Refusal) -> Code
 {
     match refusal {
         Refusal::Shape(count) => at(1, count),
-        Refusal::DataLength(length) => at(2, length),
+        Refusal::DataLength(numbers) => at(2, numbers),
         Refusal::Entry(entry) => at(3, entry),
         Refusal::Scale => at(4, 0),
         Refusal::PlanLength(columns) => at(5, columns),

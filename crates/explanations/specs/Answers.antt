@@ -32,7 +32,7 @@ acceptedWords N cost gap =
 -- The whole sentence
 
 module _ (l : List ℕ) (N : ℕ) (plan : List ℕ) (ms : List ℤ) where
-  -- the place of a refusal, and its figures; certify never answers 14
+  -- the place of a refusal, and its figures; certify never answers 14 (`refused-asked` in proofs/Refused.antt)
   unfoldable pub bodyWords : Refusal → List ℕ
   bodyWords (Shape i) = shapeWords l i
   bodyWords (DataLength n) = lengthWords (bytes "DATA") (length l) n

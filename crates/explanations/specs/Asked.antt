@@ -8,7 +8,7 @@ use Rattle.model.specs.declared.Refusal.{Refusal}
 use Rattle.model.specs.declared.Refusal.the-variants.{Shape, DataLength, Entry, Scale, PlanLength, RowOffScale, Broken, CostOffScale, MultiplierCount, Multiplier, ColumnOffScale, Underpriced, GapOffScale, Board, Frame}
 use Rattle.sentences.specs.Asked.{OfRow, OfMultiplier, OfColumn, OfEntry, OfCount}
 
--- data, plan, multipliers and the refusal; a refusal without a place asks nothing, nor does one whose figure is a length
+-- data, plan, multipliers and the refusal; a refusal without a place asks nothing, nor does one whose figure is a length; 14 certify never answers (`refused-asked` in proofs/Refused.antt)
 abbrev pub Asked : List ℕ → List ℕ → List ℤ → Refusal → Type 0
 Asked l plan ms (Shape i) = OfCount l i
 Asked l plan ms (DataLength n) = Unit {0}
@@ -23,7 +23,7 @@ Asked l plan ms (Multiplier r) = OfMultiplier l ms r
 Asked l plan ms (ColumnOffScale c) = OfColumn l ms c
 Asked l plan ms (Underpriced c) = OfColumn l ms c
 Asked l plan ms GapOffScale = Unit {0}
-Asked l plan ms Board = Unit {0}
+Asked l plan ms Board = ⊥
 Asked l plan ms (Frame n) = Unit {0}
 
 -- the same of an answer

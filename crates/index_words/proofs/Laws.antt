@@ -1,10 +1,12 @@
 -- The letters of index sets, and indices that are low. Assumes nothing.
 use mathlib.Core.Path.{_≡_, refl, sym}
+use mathlib.Core.Bool.{Bool, true, _&&_, _||_}
 use mathlib.Core.List.{List, [], _∷_, _++_, append-assoc, append-nil}
 use Prim.Native.Nat.{ℕ, _+_, _/_, _%_, _≤_, _<_}
 use native.Mathlib.Nat.{div-le-self, mod-le}
 use native.Mathlib.Numerals.{add-one}
 use native.Mathlib.Omega.{arith}
+use lib.Dec.{eqb}
 use lib.ListN.{length, getD, take}
 use lib.Seq.{take-suc}
 use borrow.Author.Tests.{ne-eqb}
@@ -12,10 +14,11 @@ use Rattle.sums.specs.Index.{Index, index}
 use Rattle.model.specs.declared.Counts.{Counts}
 use Rattle.tables.specs.Layout.{Counted, Inside}
 use Rattle.tables.proofs.Laws.{small-set}
+use Rattle.writer.specs.Names.{slash}
 use Rattle.places.specs.declared.Place.{Place}
 use Rattle.places.specs.declared.Slice.{Slice}
 use Rattle.places.specs.Numbers.{sliceAt}
-use Rattle.index_words.specs.Indices.{letter-y, letter-z, letter-w, letter-g, letter-f, letter-q, letter-m, letter-d, letter-s, indexWords, lettersWords, Low}
+use Rattle.index_words.specs.Indices.{setLetters, letter-y, letter-z, letter-w, letter-g, letter-f, letter-q, letter-m, letter-d, letter-s, indexWords, lettersWords, Low}
 
 -- the season, the day and the hour of a slice are no larger than its number
 module _ (c : Counts) (s : ℕ) {p : Slice} (e : p ≡ sliceAt c s) (h : s ≤ 1000) where
@@ -38,6 +41,18 @@ NoLetter b = (((((((((Unit {0} × (b ≡ letter-y → ⊥)) × (b ≡ letter-z �
 pub no-index : (c : Counts) (r : Index) (b : ℕ) → NoLetter b → [] ≡ indexWords c r b
 unfolding indexWords
 no-index c (index k y i j s) b h = rw (ne-eqb b letter-y (h .0 .0 .0 .0 .0 .0 .0 .0 .1), ne-eqb b letter-z (h .0 .0 .0 .0 .0 .0 .0 .1), ne-eqb b letter-w (h .0 .0 .0 .0 .0 .0 .1), ne-eqb b letter-g (h .0 .0 .0 .0 .0 .1), ne-eqb b letter-f (h .0 .0 .0 .0 .1), ne-eqb b letter-q (h .0 .0 .0 .1), ne-eqb b letter-m (h .0 .0 .1), ne-eqb b letter-d (h .0 .1), ne-eqb b letter-s (h .1))
+
+-- the letters of the index sets, with the slashes between them, all stand for an index, so the last arm of `say_index` is never met
+abbrev known : ℕ → Bool
+known b =
+    eqb b slash || (eqb b letter-y || (eqb b letter-z || (eqb b letter-w || (eqb b letter-g || (eqb b letter-f || (eqb b letter-q || (eqb b letter-m || (eqb b letter-d || eqb b letter-s))))))))
+
+abbrev allKnown : List ℕ → Bool
+allKnown [] = true
+allKnown (b ∷ bs) = known b && allKnown bs
+
+pub letters-known : allKnown setLetters ≡ true
+letters-known = refl
 
 -- The letters of an index set, one behind another.
 

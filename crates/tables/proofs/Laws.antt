@@ -1,6 +1,6 @@
 -- Index sets, starts and places: what the readers of entries cite. Assumes nothing.
 use mathlib.Core.Path.{_≡_, refl, sym, ap, _∙_, subst}
-use mathlib.Core.Bool.{false}
+use mathlib.Core.Bool.{Bool, true, false, _&&_}
 use mathlib.Core.Logic.{⊎-elim}
 use mathlib.Core.List.{List, [], _∷_, map}
 use Prim.Native.Nat.{ℕ, zero, suc, _+_, _*_, _^_, _≤_, _<_, zero-le}
@@ -59,6 +59,15 @@ stored l f {k} {v} h below e =
     below-more (λ i. getD (set l k v) i 0 ≡ f i) k (λ i g. getD-set-other l k i v 0 (omega arith) ∙ below i g) (getD-set-same l k v 0 h ∙ e)
 
 -- The index sets
+
+-- every table, table of columns and family has one of their codes, so the last arm of `box_of` is never met
+abbrev allBelow : ℕ → List ℕ → Bool
+allBelow n [] = true
+allBelow n (k ∷ ks) = ltb k n && allBelow n ks
+
+pub known-codes : (c : Counts)
+    → (allBelow (length (sets c)) tableSets && (allBelow (length (sets c)) columnSets && allBelow (length (sets c)) (map (λ (f : Family). f .set) families))) ≡ true
+known-codes c = refl
 
 module _ {c : Counts} (few : Counted c) where
   pub few-slices : slicesOf c ≤ 384

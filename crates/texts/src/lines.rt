@@ -58,15 +58,15 @@ fn word_of(line: &[u8]) -> Word
     Word::Other
 }
 
-// How many numbers of `width` digits a line of this length has after its word; 0 where it has no 1 to 64 of them.
-fn count_on(length: usize, width: usize) -> usize
+// How many numbers of `width` digits a line of so many bytes has after its word; 0 where it has no 1 to 64 of them.
+fn count_on(bytes: usize, width: usize) -> usize
     requires { ⌜ width ≤ 16 ⌝ }
-    ensures { λ r. ⌜ r ≡ count length width ⌝ }
+    ensures { λ r. ⌜ r ≡ count bytes width ⌝ }
 {
-    if length < WORD_LENGTH {
-        return 0;
+    if bytes < WORD_LENGTH {
+        return 0; // never met: the line's word was found, and `opensWith` asks for its four bytes
     }
-    let numbers = length - WORD_LENGTH;
+    let numbers = bytes - WORD_LENGTH;
     let size = width + 1;
     if numbers % size != 0 {
         return 0;

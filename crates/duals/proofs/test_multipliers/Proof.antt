@@ -13,7 +13,7 @@ array-read-whole c = search needs
 
 returns : tie.Need-returns
 returns c = λ D e.
-    count-wrong _ D e (rows-end _ (c .before .row-starts .ensures .1 20 (omega arith))) (c .if1 .taken)
+    count-wrong _ D e (rows-end _ (c .before .row-starts .ensures .1 20 (omega arith))) (λ q. omega (arith, c .if1 .taken))
 
 test-ranges-requires : tie.Need-test-ranges-requires
 test-ranges-requires c κs =

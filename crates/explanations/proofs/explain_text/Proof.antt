@@ -55,8 +55,8 @@ part-say-answer-end-3 c = search needs
 say-answer-requires : tie.Need-say-answer-requires
 say-answer-requires c κs = search needs
 
-enum-known-read : tie.Need-enum-known-read
-enum-known-read c = search needs
+enum-known-held : tie.Need-enum-known-held
+enum-known-held c = search needs
 
 slice-aggregate-explain-buffers : tie.Need-slice-aggregate-explain-buffers
 slice-aggregate-explain-buffers c = search needs
@@ -74,7 +74,7 @@ explain-buffers-requires : tie.Need-explain-buffers-requires
 explain-buffers-requires c κs =
     let r = c .before .before .before .before .before .before .before .before .before .before .before .before .read-text in
     let k = r .kept .1 in
-    (search needs, (room-kept room-new (k .0) (k .1 .0) (k .1 .1 .0) (k .1 .1 .1 .0), rw (c .before .before .before .before .before .before .read .given .1) at (r .ensures .1)))
+    (search needs, (room-kept room-new (k .0) (k .1 .0) (k .1 .1 .0) (k .1 .1 .1 .0), rw (c .before .before .before .before .before .before .held .given .1) at (r .ensures .1)))
 
 returns : tie.Need-returns
 unfolding textIn explanationOf explainText
@@ -86,7 +86,7 @@ returns-2 : tie.Need-returns-2
 unfolding textIn explainText
 returns-2 c =
     explains (c .before .before .before .before .before .before .before .before .before .before .before .before .before .before .before .before .before .before .before .args .input .now) (c .explain-buffers .ensures)
-    (ap explanationOf (rw (c .before .before .before .before .before .before .before .read .given .1) at (c .before .before .before .before .before .before .before .before .before .before .before .before .before .read-text .ensures .0)))
+    (ap explanationOf (rw (c .before .before .before .before .before .before .before .held .given .1) at (c .before .before .before .before .before .before .before .before .before .before .before .before .before .read-text .ensures .0)))
 
 pub explain-text-spec : {M : Type 1} → statement M
 explain-text-spec =
@@ -108,7 +108,7 @@ explain-text-spec =
     part-say-answer-start-3
     part-say-answer-end-3
     say-answer-requires
-    enum-known-read
+    enum-known-held
     slice-aggregate-explain-buffers
     slice-aggregate-explain-buffers-2
     slice-aggregate-explain-buffers-3
