@@ -6,14 +6,12 @@ use mathlib.Core.Logic.{⊎-elim}
 use Prim.Native.Nat.{ℕ, _+_, _≤_, _<_}
 use native.Mathlib.Nat.{eq-or-lt-of-le}
 use native.Mathlib.Omega.{arith}
-use lib.Dec.{leb, ltb}
+use lib.Dec.{leb}
 use lib.IntN.{ℤ}
 use borrow.Author.Tests.{le-ltb, lt-ltb, le-leb, lt-leb}
 use Rattle.capped.specs.declared.Sum.{Sum}
-use Rattle.capped.specs.declared.Sum.the-variants.{Exact, Over}
 use Rattle.capped.specs.declared.Order.{Order}
-use Rattle.capped.specs.declared.Order.the-variants.{Unknown}
-use Rattle.capped.specs.Cap.{limit, cap, both, times, over, ranked, order}
+use Rattle.capped.specs.Cap.{limit, cap, both, times, over, order}
 use Rattle.capped.proofs.Laws.{over-cap, lt-order, eq-order, gt-order, le-or-lt, both-cap, times-cap}
 use Rattle.sums.specs.Span.{orElse}
 use Rattle.sums.specs.Index.{Index, index}
@@ -47,18 +45,6 @@ module _ (v : Pair) (p : Sum) (column : ℕ) where
       → w ≡ ordered o column → w ≡ verdictOf v p column
   unfolding verdictOf
   on-scale o a j q h = h ∙ rw (a, ← j, q)
-
--- the order of two sums is known where the first is not over the limit, so the code's last way out is never met
-ranked-known : (a b : Bool) → ranked a b ≡ Unknown → ⊥
-ranked-known true b e = let z : _≡_ {A = ℕ} 0 1 = cc in absurd (omega arith)
-ranked-known false true e = let z : _≡_ {A = ℕ} 0 1 = cc in absurd (omega arith)
-ranked-known false false e = let z : _≡_ {A = ℕ} 0 1 = cc in absurd (omega arith)
-
-pub order-known : (s t : Sum) → over s ≡ false → order s t ≡ Unknown → ⊥
-unfolding over order
-order-known (Exact v) (Exact w) h e = ranked-known (ltb v w) (ltb w v) e
-order-known (Exact v) Over h e = let z : _≡_ {A = ℕ} 0 1 = cc in absurd (omega arith)
-order-known Over t h e = let z : _≡_ {A = ℕ} 0 1 = cc in absurd (omega arith)
 
 -- terms above zero up to the limit: whether the column is priced well
 judged : (u n column : ℕ) → u ≤ limit → ordered (order (cap u) (cap n)) column ≡ outcome (unless (leb u n) (Underpriced column))

@@ -48,7 +48,8 @@ fn verdict(sums: Pair, price: Sum, column: usize) -> Outcome
         Order::Less => Outcome::Fine,
         Order::Equal => Outcome::Fine,
         Order::Greater => Outcome::Fails(Refusal::Underpriced(column)),
-        Order::Unknown => Outcome::Fails(Refusal::Underpriced(column)), // never met, since `up` is not over the limit: the law `order-known`
+        // Never reached: `up` is not over here, and an order is unknown of two sums that are over alone (capped's law `order-unknown`).
+        Order::Unknown => Outcome::Fails(Refusal::Underpriced(column)),
     }
 }
 
