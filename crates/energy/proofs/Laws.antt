@@ -4,7 +4,7 @@ use mathlib.Core.Bool.{Bool, true, false, _&&_}
 use mathlib.Core.Logic.{⊎-elim}
 use mathlib.Core.List.{List, []}
 use Prim.Native.Nat.{ℕ, zero, suc, _+_, _*_, _-_, _≤_, _<_, max}
-use native.Mathlib.Nat.{add-sub-cancel-left, mul-comm, mul-le-mul, mul-pos, mul-assoc, sub-zero, eq-or-lt-of-le}
+use native.Mathlib.Nat.{add-zero, add-sub-cancel-left, mul-comm, mul-le-mul, mul-pos, mul-assoc, sub-zero, eq-or-lt-of-le}
 use native.Mathlib.Numerals.{add-one}
 use native.Mathlib.Omega.{arith}
 use lib.ListN.{length, getD, set, take, drop, length-drop, length-set}
@@ -27,7 +27,7 @@ use Rattle.model.specs.Families.{seasonSum, available, fuelUse, zoneEmission, s
 use Rattle.tables.specs.Layout.{Counted, Laid, Entered, planEntry, tableSets}
 use Rattle.tables.proofs.Laws.{entry-below, entry-is}
 use Rattle.parts.specs.Years.{YearPart}
-use Rattle.energy.specs.Energies.{Energies, energyAt, allOf, onSum, yearEnergy}
+use Rattle.energy.specs.Energies.{Energies, energyAt, bothIf, allIf, allOf, yearEnergy}
 
 -- Loops
 
@@ -35,17 +35,13 @@ use Rattle.energy.specs.Energies.{Energies, energyAt, allOf, onSum, year
 pub more : (k : ℕ) (f : ℕ → ℕ) → plus (cap (sum k f)) (f k) ≡ cap (sum (k + 1) f)
 more k f = plus-cap (sum k f) (f k) ∙ ap cap (sym (sum-one-more k f))
 
--- one that joins the k-th sum, and the loop's end
-pub all-more : {r s t : Sum} (k : ℕ) (f : ℕ → Sum) → r ≡ both s t → s ≡ allOf k f → t ≡ f k → r ≡ allOf (k + 1) f
-unfolding allOf
-all-more k f e h w = e ∙ rw (h, w) (ap (λ (n : ℕ). allOf n f) (sym (add-one k)))
+-- one that joins the k-th sum where its test holds, and the loop's end
+pub all-more : {r s t : Sum} {b : Bool} (k : ℕ) (p : ℕ → Bool) (f : ℕ → Sum) → r ≡ bothIf b s t → s ≡ allIf k p f → b ≡ p k → t ≡ f k → r ≡ allIf (k + 1) p f
+unfolding allIf
+all-more k p f e h v w = e ∙ rw (h, v, w) (ap (λ (n : ℕ). allIf n p f) (sym (add-one k)))
 
-pub all-done : {s : Sum} {k n : ℕ} (f : ℕ → Sum) → s ≡ allOf k f → k ≡ n → s ≡ allOf n f
-all-done f e h = e ∙ ap (λ (m : ℕ). allOf m f) h
-
-pub on-both : (a b : Bool) (s : Sum) → onSum (a && b) s ≡ onSum a (onSum b s)
-on-both true b s = refl
-on-both false b s = refl
+pub all-done : {s : Sum} {k n : ℕ} (p : ℕ → Bool) (f : ℕ → Sum) → s ≡ allIf k p f → k ≡ n → s ≡ allIf n p f
+all-done p f e h = e ∙ ap (λ (m : ℕ). allIf m p f) h
 
 -- The places
 
@@ -193,14 +189,18 @@ module _ {l at : List ℕ} {c : Counts} {y z : ℕ} (n : Laid l at c) (hy : y < 
 
 -- Sums that are `cap` of exact numbers
 
-pub all-cap : (n : ℕ) (f : ℕ → Sum) (h : ℕ → ℕ) → ((i : ℕ) → i < n → f i ≡ cap (h i)) → allOf n f ≡ cap (sum n h)
-unfolding allOf sum
-all-cap zero f h e = refl
-all-cap (suc n) f h e = rw (all-cap n f h (λ i l. e i (omega arith)), e n (omega arith)) (both-cap (sum n h) (h n))
+if-cap : (b : Bool) (m n : ℕ) → bothIf b (cap m) (cap n) ≡ cap (m + on b n)
+if-cap true m n = both-cap m n
+if-cap false m n = ap cap (sym (add-zero m))
 
-pub on-cap : (b : Bool) {s : Sum} (n : ℕ) → s ≡ cap n → onSum b s ≡ cap (on b n)
-on-cap true n e = e
-on-cap false n e = refl
+pub all-cap : (n : ℕ) (p : ℕ → Bool) (f : ℕ → Sum) (h : ℕ → ℕ) → ((i : ℕ) → i < n → f i ≡ cap (h i)) → allIf n p f ≡ cap (sum n (λ i. on (p i) (h i)))
+unfolding allIf sum
+all-cap zero p f h e = refl
+all-cap (suc n) p f h e = rw (all-cap n p f h (λ i l. e i (omega arith)), e n (omega arith)) (if-cap (p n) (sum n (λ i. on (p i) (h i))) (h n))
+
+on-both : (a b : Bool) (n : ℕ) → on (a && b) n ≡ on a (on b n)
+on-both true b n = refl
+on-both false b n = refl
 
 -- the slices of a year, season by season
 slices-by-season : (c : Counts) (f : ℕ → ℕ) → sum (slicesOf c) f ≡ sum (c .seasons) (λ q. sum (seasonLength c) (λ i. f (q * seasonLength c + i)))
@@ -217,12 +217,15 @@ module _ {D : Data} {x : Index → ℕ} {energy : List (List ℕ)} {c : Counts} 
   year-energy : (f g : ℕ) → g < c .plants → yearEnergy c energy f y g ≡ cap (sum (S D) (λ s. duration D s * f * x (gen y g s)))
   year-energy f g hg =
       let term : ℕ → ℕ = λ s. duration D s * f * x (gen y g s) in
-      all-cap (c .seasons) _ (λ q. seasonSum D q term) (λ q l. season-energy f g q hg l ∙ ap cap (sum-cong _ (λ i _. omega arith)))
+      all-cap (c .seasons) (λ q. true) _ (λ q. seasonSum D q term) (λ q l. season-energy f g q hg l ∙ ap cap (sum-cong _ (λ i _. omega arith)))
       ∙ ap (λ (k : Counts). cap (sum (k .seasons) (λ q. seasonSum D q term))) (sym e) ∙ ap cap (sym (slices-by-season (D .counts) term))
 
-  -- plant by plant
-  all-plants : (f : ℕ → Sum) (h : ℕ → ℕ) → ((g : ℕ) → g < c .plants → f g ≡ cap (h g)) → allOf (c .plants) f ≡ cap (sum (G D) h)
-  all-plants f h w = all-cap (c .plants) f h w ∙ ap (λ (k : Counts). cap (sum (k .plants) h)) (sym e)
+  -- plant by plant, under any test and with any factor
+  plants-energy : (p : ℕ → Bool) (f : ℕ → ℕ)
+      → allIf (c .plants) p (λ g. yearEnergy c energy (f g) y g) ≡ cap (sum (G D) (λ g. on (p g) (sum (S D) (λ s. duration D s * f g * x (gen y g s)))))
+  plants-energy p f =
+      let h : ℕ → ℕ = λ g. sum (S D) (λ s. duration D s * f g * x (gen y g s)) in
+      all-cap (c .plants) p _ h (λ g l. year-energy (f g) g l) ∙ ap (λ (k : Counts). cap (sum (k .plants) (λ g. on (p g) (h g)))) (sym e)
 
   -- 10
   pub available-energy : (g q : ℕ) → g < c .plants → q < c .seasons → times (energyAt c energy y g q) 1000 ≡ cap (value (available D y g q .negative) x)
@@ -231,17 +234,16 @@ module _ {D : Data} {x : Index → ℕ} {energy : List (List ℕ)} {c : Counts} 
 
   -- 17
   pub fuel-energy : (z f : ℕ)
-      → allOf (c .plants) (λ g. onSum (eqb (zone D g) z) (onSum (eqb (fuel D g) f) (yearEnergy c energy (heatRate D g) y g))) ≡ cap (value (fuelUse D y z f .negative) x)
+      → allIf (c .plants) (λ g. eqb (zone D g) z && eqb (fuel D g) f) (λ g. yearEnergy c energy (heatRate D g) y g) ≡ cap (value (fuelUse D y z f .negative) x)
   unfolding fuelUse
-  fuel-energy z f = all-plants _ _ (λ g h. on-cap (eqb (zone D g) z) _ (on-cap (eqb (fuel D g) f) _ (year-energy (heatRate D g) g h)))
+  fuel-energy z f = plants-energy _ (λ g. heatRate D g) ∙ ap cap (sum-cong (G D) (λ g l. on-both (eqb (zone D g) z) (eqb (fuel D g) f) _))
 
   -- 19
-  pub zone-energy : (z : ℕ)
-      → allOf (c .plants) (λ g. onSum (eqb (zone D g) z) (yearEnergy c energy (emission D g) y g)) ≡ cap (value (zoneEmission D y z .negative) x)
+  pub zone-energy : (z : ℕ) → allIf (c .plants) (λ g. eqb (zone D g) z) (λ g. yearEnergy c energy (emission D g) y g) ≡ cap (value (zoneEmission D y z .negative) x)
   unfolding zoneEmission
-  zone-energy z = all-plants _ _ (λ g h. on-cap (eqb (zone D g) z) _ (year-energy (emission D g) g h))
+  zone-energy z = plants-energy _ (λ g. emission D g)
 
   -- 20
   pub system-energy : allOf (c .plants) (λ g. yearEnergy c energy (emission D g) y g) ≡ cap (value (systemEmission D y .negative) x)
   unfolding systemEmission
-  system-energy = all-plants _ _ (λ g h. year-energy (emission D g) g h)
+  system-energy = plants-energy _ (λ g. emission D g)

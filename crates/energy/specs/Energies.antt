@@ -22,15 +22,18 @@ pub record Energies (D : Data) (x : Index → ℕ) (energy : List (List ℕ)) (c
   pub is : (y g q : ℕ) → y < c .years → g < c .plants → q < c .seasons
       → energyAt c energy y g q ≡ cap (seasonSum D q (λ s. duration D s * x (gen y g s)))
 
--- the sum of f 0 to f (n - 1)
-unfoldable pub allOf : ℕ → (ℕ → Sum) → Sum
-allOf zero f = cap 0
-allOf (suc n) f = both (allOf n f) (f n)
+-- s + t where the test holds, else s
+abbrev pub bothIf : Bool → Sum → Sum → Sum
+bothIf true s t = both s t
+bothIf false s t = s
 
--- a sum where a test holds, else 0
-abbrev pub onSum : Bool → Sum → Sum
-onSum true s = s
-onSum false s = cap 0
+-- the sum of those of f 0 to f (n - 1) whose test holds, and of all of them
+unfoldable pub allIf : ℕ → (ℕ → Bool) → (ℕ → Sum) → Sum
+allIf zero p f = cap 0
+allIf (suc n) p f = bothIf (p n) (allIf n p f) (f n)
+
+abbrev pub allOf : ℕ → (ℕ → Sum) → Sum
+allOf n f = allIf n (λ i. true) f
 
 -- a factor times a plant's energies of one year
 abbrev pub yearEnergy : Counts → List (List ℕ) → ℕ → ℕ → ℕ → Sum

@@ -15,6 +15,7 @@ use tables::names::HEAT_RATE;
 use tables::names::ZONE;
 use tables::sets::slices_of;
 ghost use mathlib.Core.Path.{_≡_};
+ghost use mathlib.Core.Bool.{_&&_};
 ghost use Prim.Native.Nat.{_+_, _*_, _<_};
 ghost use lib.Dec.{eqb};
 ghost use lib.ListN.{length, getD};
@@ -23,7 +24,7 @@ ghost use Rattle.model.specs.Counts.{slicesOf};
 ghost use Rattle.model.specs.Data.{read, zone, fuel, duration, heatRate, emission};
 ghost use Rattle.model.specs.Families.{seasonSum};
 ghost use Rattle.tables.specs.Layout.{Counted, Laid, Planned, planEntry};
-ghost use Rattle.energy.specs.Energies.{Energies, energyAt, allOf, onSum, yearEnergy};
+ghost use Rattle.energy.specs.Energies.{Energies, energyAt, bothIf, allIf, allOf, yearEnergy};
 
 // Σ Dur·gen of a plant over the slices of season q, from the year's part of gen.
 fn season_energy(data: &[u32], outputs: &[u32], at: &[usize; 43], c: Counts, g: usize, q: usize) -> Sum
@@ -66,25 +67,25 @@ pub fn energy_at(energy: &[Kept; 1280], c: Counts, y: usize, g: usize, q: usize)
     capped::sum_kept(energy[(y * c.plants + g) * c.seasons + q])
 }
 
-// factor·Σ of a plant's energies over the seasons of year y where a test holds, else 0.
-fn energy_if(here: bool, factor: u64, energy: &[Kept; 1280], c: Counts, y: usize, g: usize) -> Sum
+// factor·Σ of a plant's energies over the seasons of year y, added to a sum where a test holds.
+fn add_energy_if(here: bool, total: Sum, factor: u64, energy: &[Kept; 1280], c: Counts, y: usize, g: usize) -> Sum
     requires { ⌜ Counted c × ((length (now energy) ≡ 1280) × ((y < c .years) × (g < c .plants))) ⌝ }
-    ensures { λ r. ⌜ r ≡ onSum here (yearEnergy c (now (energy .entry)) factor y g) ⌝ }
+    ensures { λ r. ⌜ r ≡ bothIf here total (yearEnergy c (now (energy .entry)) factor y g) ⌝ }
 {
-    let mut total = capped::zero();
     if !here {
         return total;
     }
+    let mut year = capped::zero();
     for q in 0..c.seasons {
-        total = capped::add_multiple(total, energy_at(energy, c, y, g, q), factor);
+        year = capped::add_multiple(year, energy_at(energy, c, y, g, q), factor);
     }
-    total
+    capped::join(total, year)
 }
 
 // Σ Dur·HeatRate·gen over the plants of zone z and fuel f, in year y.
 pub fn burned(data: &[u32], at: &[usize; 43], c: Counts, energy: &[Kept; 1280], y: usize, z: u64, f: u64) -> Sum
     requires { ⌜ Laid (now «data») (now at) c × ((length (now energy) ≡ 1280) × (y < c .years)) ⌝ }
-    ensures { λ r. ⌜ r ≡ allOf (c .plants) (λ g. onSum (eqb (zone (read (now («data» .entry))) g) z) (onSum (eqb (fuel (read (now («data» .entry))) g) f) (yearEnergy c (now (energy .entry)) (heatRate (read (now («data» .entry))) g) y g))) ⌝ }
+    ensures { λ r. ⌜ r ≡ allIf (c .plants) (λ g. eqb (zone (read (now («data» .entry))) g) z && eqb (fuel (read (now («data» .entry))) g) f) (λ g. yearEnergy c (now (energy .entry)) (heatRate (read (now («data» .entry))) g) y g) ⌝ }
 {
     let mut total = capped::zero();
     for g in 0..c.plants {
@@ -92,7 +93,7 @@ pub fn burned(data: &[u32], at: &[usize; 43], c: Counts, energy: &[Kept; 1280], 
             by_plant(data, at, c, ZONE, g) == z,
             by_plant(data, at, c, FUEL, g) == f,
         );
-        total = capped::join(total, energy_if(here, by_plant(data, at, c, HEAT_RATE, g), energy, c, y, g));
+        total = add_energy_if(here, total, by_plant(data, at, c, HEAT_RATE, g), energy, c, y, g);
     }
     total
 }
@@ -100,12 +101,12 @@ pub fn burned(data: &[u32], at: &[usize; 43], c: Counts, energy: &[Kept; 1280], 
 // Σ Dur·E·gen over the plants of zone z, in year y.
 pub fn emitted_in(data: &[u32], at: &[usize; 43], c: Counts, energy: &[Kept; 1280], y: usize, z: u64) -> Sum
     requires { ⌜ Laid (now «data») (now at) c × ((length (now energy) ≡ 1280) × (y < c .years)) ⌝ }
-    ensures { λ r. ⌜ r ≡ allOf (c .plants) (λ g. onSum (eqb (zone (read (now («data» .entry))) g) z) (yearEnergy c (now (energy .entry)) (emission (read (now («data» .entry))) g) y g)) ⌝ }
+    ensures { λ r. ⌜ r ≡ allIf (c .plants) (λ g. eqb (zone (read (now («data» .entry))) g) z) (λ g. yearEnergy c (now (energy .entry)) (emission (read (now («data» .entry))) g) y g) ⌝ }
 {
     let mut total = capped::zero();
     for g in 0..c.plants {
         let here = by_plant(data, at, c, ZONE, g) == z;
-        total = capped::join(total, energy_if(here, by_plant(data, at, c, EMISSION, g), energy, c, y, g));
+        total = add_energy_if(here, total, by_plant(data, at, c, EMISSION, g), energy, c, y, g);
     }
     total
 }
@@ -117,7 +118,7 @@ pub fn emitted(data: &[u32], at: &[usize; 43], c: Counts, energy: &[Kept; 1280],
 {
     let mut total = capped::zero();
     for g in 0..c.plants {
-        total = capped::join(total, energy_if(true, by_plant(data, at, c, EMISSION, g), energy, c, y, g));
+        total = add_energy_if(true, total, by_plant(data, at, c, EMISSION, g), energy, c, y, g);
     }
     total
 }

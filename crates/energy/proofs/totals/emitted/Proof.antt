@@ -1,4 +1,5 @@
-use mathlib.Core.Path.{_≡_, _∙_, refl}
+use mathlib.Core.Path.{_≡_, refl}
+use mathlib.Core.Bool.{true}
 use mathlib.Core.List.{List}
 use Prim.Native.Nat.{ℕ, _-_, _≤_}
 use native.Mathlib.Omega.{arith}
@@ -6,7 +7,7 @@ use borrow.Author.Needs.{needs}
 use Rattle.capped.specs.declared.Sum.{Sum}
 use Rattle.model.specs.declared.Counts.{Counts}
 use Rattle.model.specs.Data.{read, emission}
-use Rattle.energy.specs.Energies.{allOf, yearEnergy}
+use Rattle.energy.specs.Energies.{allIf, allOf, yearEnergy}
 use Rattle.energy.proofs.Laws.{all-more, all-done, plant-read}
 use Rattle.energy.proofs.totals.emitted.Statement.{statement}
 use Rattle.energy.proofs.totals.emitted.Tie as tie
@@ -25,17 +26,14 @@ zero-requires : tie.Need-zero-requires Inv-loop μ-loop
 zero-requires c κs = search needs
 
 loop-holds : tie.Need-loop-holds Inv-loop μ-loop
-unfolding allOf
+unfolding allIf
 loop-holds c = (search needs, c .zero .ensures)
 
 by-plant-requires : tie.Need-by-plant-requires Inv-loop μ-loop
 by-plant-requires c κs = plant-read (c .before .before .before .before .pre .0) (omega arith) refl (c .loop-test .taken)
 
-energy-if-requires : tie.Need-energy-if-requires Inv-loop μ-loop
-energy-if-requires c κs = let p = c .before .before .before .before .before .pre in (p .0 .counted, (p .1 .0, (p .1 .1, c .before .loop-test .taken)))
-
-join-requires : tie.Need-join-requires Inv-loop μ-loop
-join-requires c κs = search needs
+add-energy-if-requires : tie.Need-add-energy-if-requires Inv-loop μ-loop
+add-energy-if-requires c κs = let p = c .before .before .before .before .before .pre in (p .0 .counted, (p .1 .0, (p .1 .1, c .before .loop-test .taken)))
 
 add-g : tie.Need-add-g Inv-loop μ-loop
 add-g c = search needs
@@ -45,16 +43,15 @@ loop-less c = search needs
 
 loop-again : tie.Need-loop-again Inv-loop μ-loop
 loop-again c =
-    let l = c .before .before .before .before in
+    let l = c .before .before .before in
     let a = l .before .before .before .args in
-    let f = emittedBy (a .«data» .now) (a .c) (a .energy .now) (a .y) in
-    (search needs, all-more (l .loop .g) f (c .join .ensures) (l .loop .inv .1) (c .before .energy-if .ensures ∙ rw (c .before .before .by-plant .ensures .0)))
+    (search needs, all-more (l .loop .g) (λ g. true) (emittedBy (a .«data» .now) (a .c) (a .energy .now) (a .y)) (c .add-energy-if .ensures) (l .loop .inv .1) refl (rw (c .before .by-plant .ensures .0)))
 
 returns : tie.Need-returns Inv-loop μ-loop
 returns c =
     let l = c .before .loop in
     let a = c .before .before .before .before .args in
-    all-done (emittedBy (a .«data» .now) (a .c) (a .energy .now) (a .y)) (l .inv .1) (omega arith)
+    all-done (λ g. true) (emittedBy (a .«data» .now) (a .c) (a .energy .now) (a .y)) (l .inv .1) (omega arith)
 
 pub emitted-spec : {M : Type 1} → statement M
 emitted-spec =
@@ -65,8 +62,7 @@ emitted-spec =
     zero-requires
     loop-holds
     by-plant-requires
-    energy-if-requires
-    join-requires
+    add-energy-if-requires
     add-g
     loop-less
     loop-again

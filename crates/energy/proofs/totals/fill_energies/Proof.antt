@@ -54,7 +54,7 @@ year-part-requires : at tie.Need-year-part-requires
 year-part-requires c κs =
     let b = c .before .before .before .before in
     let s = b .before .before .before in
-    part-asked (s .pre .0 .counted) (s .pre .1 .0) (c .before .loop-test .taken) (places-are (s .args .c) (b .slices-of .ensures .0)) 3 (omega arith) refl
+    part-asked (s .pre .0 .counted) (s .pre .1 .0) (omega arith) (places-are (s .args .c) (b .slices-of .ensures .0)) 3 (omega arith) refl
 
 loop2-holds : at tie.Need-loop2-holds
 loop2-holds c = (search needs, omega arith, c .before .before .before .loop .inv .2)
