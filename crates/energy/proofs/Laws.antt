@@ -11,7 +11,7 @@ use lib.ListN.{length, getD, set, take, drop, length-drop, length-set}
 use lib.Seq.{take-all, getD-take, getD-drop, getD-set-same, getD-set-other, length-take-le}
 use lib.Dec.{eqb}
 use Rattle.capped.specs.declared.Sum.{Sum}
-use Rattle.capped.specs.Cap.{cap, plus, both, times, keptAs, keptSum}
+use Rattle.capped.specs.Cap.{cap, plus, times, keptAs, keptSum}
 use Rattle.capped.proofs.Laws.{plus-cap, both-cap, times-cap, kept-cap}
 use Rattle.sums.specs.Sum.{sum, largest, on}
 use Rattle.sums.proofs.Sums.{sum-one-more, sum-cong, sum-scale, sum-flat}
