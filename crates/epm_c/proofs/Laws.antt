@@ -25,7 +25,7 @@ module _ (out : List ℕ) (room : 2 ≤ length out) where
 
   pub board-kept : (old : List ℕ) {last new : List ℕ} → last ≡ new → last ≡ boardOf (length out) old new
   unfolding boardOf
-  board-kept old q = q ∙ simp (le-ltb (length out) 2 room)
+  board-kept old q = rw (le-ltb (length out) 2 room) q
 
 -- no refusal has the number 0
 refused : (r : Refusal) → codeOf r .number ≡ 0 → ⊥
