@@ -68,7 +68,7 @@ fn say_body(line: &mut [u8; ROOM], at: usize, data: &[u32], scale: u32, plan: &[
         Refusal::ColumnOffScale(wide) => say_column_off_scale(line, at, data, multipliers, wide),
         Refusal::Underpriced(column) => say_underpriced(line, at, data, multipliers, column),
         Refusal::GapOffScale => say(line, at, b"a sum of the terms N*m*k is more than 2^62 - 1"),
-        Refusal::Board => say(line, at, b"the year is none of the plan's, or the board has too few places"), // never met: the law `refused-asked`
+        Refusal::Board => say(line, at, b"the year is none of the plan's, or the board has too few places"), // never reached: certify does not answer 14 (the law `refused-asked`)
         Refusal::Frame(number) => say_frame(line, at, number),
     }
 }

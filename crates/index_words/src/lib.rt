@@ -53,7 +53,7 @@ fn say_index(line: &mut [u8; ROOM], at: usize, c: Counts, p: Place, letter: u8) 
         b'm' => say_counted(line, at, b", season ", p.first),
         b'd' => say_counted(line, at, b", day ", p.second),
         b's' => say_slice(line, at, c, p.slice),
-        _ => at, // never met: SET_LETTERS has no other letter, the law `letters-known`
+        _ => at, // never reached: SET_LETTERS has no other letter (the law `letters-known`)
     }
 }
 

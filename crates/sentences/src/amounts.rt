@@ -20,7 +20,7 @@ pub fn say_amount(line: &mut [u8; ROOM], at: usize, amount: Amount) -> usize
     }
 }
 
-// By how much a column is underpriced. The last two arms are never met: of an underpriced column the figure is there, the law `short-is` of `figures`.
+// By how much a column is underpriced. The last two arms are never reached: of an underpriced column the figure is there (the law `short-is` of `figures`).
 pub fn say_balance(line: &mut [u8; ROOM], at: usize, balance: Balance) -> usize
     requires { ⌜ Started (now line) at ⌝ }
     ensures { λ r. ⌜ Said (now (line .entry)) at (balanceWords balance) r (now (line .exit)) ⌝ }

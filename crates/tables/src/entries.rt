@@ -6,7 +6,7 @@ ghost use mathlib.Core.Path.{_≡_};
 ghost use Prim.Native.Nat.{_+_, _≤_, _<_};
 ghost use lib.ListN.{length, getD};
 ghost use Rattle.sums.specs.Index.{index};
-ghost use Rattle.model.specs.Counts.{[yzs], [yzzs], [yz], [ygs], [yg], [g], [one], [y], [s], [qd], [gq], [gs], [z], [yzzq], [yzz], [yf]};
+ghost use Rattle.model.specs.Counts.{[yzs], [yzzs], [yz], [yg], [g], [one], [y], [s], [qd], [gq], [gs], [z], [yzzq], [yzz], [yf]};
 ghost use Rattle.model.specs.Data.{read, most32};
 ghost use Rattle.tables.specs.Layout.{Entered, Column, planEntry};
 
@@ -149,13 +149,6 @@ pub fn planned_by_year_plant(plan: &[u32], at: &[usize; 43], c: Counts, t: usize
     ensures { λ r. ⌜ (r ≡ planEntry c (now (plan .entry)) (index t y g 0 0)) × (r ≤ most32) ⌝ }
 {
     planned_in(plan, at, c, t, 5, y, g, 0, 0)
-}
-
-pub fn planned_by_plant_slice(plan: &[u32], at: &[usize; 43], c: Counts, t: usize, y: usize, g: usize, s: usize) -> u64
-    requires { ⌜ Column (now plan) (now at) c t [ygs] y g 0 s ⌝ }
-    ensures { λ r. ⌜ (r ≡ planEntry c (now (plan .entry)) (index t y g 0 s)) × (r ≤ most32) ⌝ }
-{
-    planned_in(plan, at, c, t, 3, y, g, 0, s)
 }
 
 pub fn planned_by_link_slice(plan: &[u32], at: &[usize; 43], c: Counts, t: usize, y: usize, z: usize, w: usize, s: usize) -> u64
