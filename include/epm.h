@@ -75,7 +75,7 @@
  *        N * cost of the other plan  >=  M * (cost - gap)
  *
  *    so that at the same scale no plan costs less than cost - gap. This is in
- *    the contract of `certify` in crates/epm/src/lib.rt.
+ *    the contract of `epm_certify` in crates/epm_c/src/lib.rt.
  *
  * Tested: the calls of the compiled library give the answers and boards of a
  * second implementation on thousands of inputs (tests/agreement), and those

@@ -353,7 +353,7 @@ le-difference m n h p = le-net m 0 n h zero-le (omega arith) (omega arith) ∙ r
 pub lt-difference : (m n : ℕ) → n ≤ limit → m < n → netOf (cap m) (cap 0) (cap n) ≡ BelowZero
 lt-difference m n h p = lt-net m 0 n (omega arith) zero-le h (omega arith)
 
--- A sum that a list keeps
+-- A sum that was stored comes back
 
 pub kept-cap : (n : ℕ) → keptSum (keptAs (cap n)) ≡ cap n
 unfolding keptAs keptSum

@@ -20,7 +20,7 @@ pub enum Sum {
     Over,
 }
 
-// A sum as a list keeps it, since a list of enums cannot be lent. What stands in it is known here alone: `keep` makes it, `sum_kept` reads it.
+// A sum as it is stored in an array, since an array of enums cannot be lent. Its form is known to this crate alone: `keep` makes one, `sum_kept` reads the sum back.
 pub type Kept = [u64; 1];
 
 // What a sum comes to.
@@ -250,7 +250,6 @@ pub fn difference(s: Sum, t: Sum) -> Balance
     net(s, zero(), t)
 }
 
-// A sum as a list keeps it.
 pub fn keep(s: Sum) -> Kept
     ensures { λ r. ⌜ r ≡ keptAs s ⌝ }
 {
@@ -260,7 +259,6 @@ pub fn keep(s: Sum) -> Kept
     }
 }
 
-// The sum that was kept.
 pub fn sum_kept(k: Kept) -> Sum
     ensures { λ r. ⌜ r ≡ keptSum k ⌝ }
 {

@@ -14,7 +14,8 @@ ghost use lib.Seq.{sets};
 ghost use Rattle.frames.specs.Format.{certifyText, BindsText};
 ghost use Rattle.certify.specs.Printed.{printed};
 
-// The printed line's bytes for an input, at the start of `line`, and their number. The certificate that is printed binds every rival plan (demand 3).
+// The printed line's bytes for an input, at the start of `line`, and their number. They are the line of the certificate `certifyText`; the last part
+// says of that certificate that it binds every rival plan (demand 3).
 fn answer(input: &[u8], line: &mut [u8; 64]) -> usize
     ensures { λ r. ⌜ (r ≡ length (printed (now (input .entry)))) × ((r ≤ 44) × ((now (line .exit) ≡ sets (now (line .entry)) 0 (printed (now (input .entry))))
         × BindsText (now (input .entry)) (certifyText (now (input .entry))))) ⌝ }

@@ -55,7 +55,7 @@ pub extern "C" fn epm_post(data: &[u32], scale: u32, plan: &[u32], year: usize, 
         × ((now (out .exit) ≡ written (now (out .entry)) (answerCode (post (now («data» .entry)) scale (now (plan .entry)) year (now (board .entry)) start)))
         × (now (board .exit) ≡ boardOf (length (now (out .entry))) (now (board .entry)) (posted (now («data» .entry)) scale (now (plan .entry)) year (now (board .entry)) start))) ⌝ }
 {
-    if out.len() < 2 { // before the board is reached
+    if out.len() < 2 {
         return NO_ROOM;
     }
     put(out, answer_code(epm::post(data, scale, plan, year, board, start)))

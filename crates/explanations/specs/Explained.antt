@@ -30,7 +30,7 @@ explanationOf (whole s) = certifiedWords (s .ofData) (scaleIn (s .ofScal)) (s .o
 unfoldable pub explainText : List ℕ → List ℕ
 explainText input = explanationOf (textOf input)
 
--- the bytes that are used are the explanation, as far as there is room; the certificate that it tells binds every rival plan (demand 3)
+-- the bytes that are used are the explanation, as far as there is room; the certificate whose line and sentence it is binds every rival plan (demand 3)
 pub record Explains (input : List ℕ) (e : Explanation) : Type 0 where
   pub whole-line : length (e .bytes) ≡ room
   pub within : e .used ≤ room

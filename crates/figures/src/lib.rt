@@ -96,16 +96,16 @@ pub fn row_figures(data: &[u32], scale: u32, plan: &[u32], p: Place) -> RowFigur
     told_sides(sides_at(data, plan, &energy, &at, &cat, c, scale as u64, p))
 }
 
-fn told_pair(sums: Pair, price: Sum) -> ColumnFigures
-    ensures { λ r. ⌜ r ≡ toldPair sums price ⌝ }
+fn told_pair(sums: Pair, charged: Sum) -> ColumnFigures
+    ensures { λ r. ⌜ r ≡ toldPair sums charged ⌝ }
 {
     let up = sums.up;
     let down = sums.down;
     ColumnFigures {
         up: capped::value(up),
         down: capped::value(down),
-        price: capped::value(price),
-        short: capped::difference(up, capped::join(price, down)),
+        price: capped::value(charged),
+        short: capped::difference(up, capped::join(charged, down)),
     }
 }
 

@@ -42,7 +42,7 @@ pub no-index : (c : Counts) (r : Index) (b : ℕ) → NoLetter b → [] ≡ inde
 unfolding indexWords
 no-index c (index k y i j s) b h = rw (ne-eqb b letter-y (h .0 .0 .0 .0 .0 .0 .0 .0 .1), ne-eqb b letter-z (h .0 .0 .0 .0 .0 .0 .0 .1), ne-eqb b letter-w (h .0 .0 .0 .0 .0 .0 .1), ne-eqb b letter-g (h .0 .0 .0 .0 .0 .1), ne-eqb b letter-f (h .0 .0 .0 .0 .1), ne-eqb b letter-q (h .0 .0 .0 .1), ne-eqb b letter-m (h .0 .0 .1), ne-eqb b letter-d (h .0 .1), ne-eqb b letter-s (h .1))
 
--- the letters of the index sets, with the slashes between them, all stand for an index, so the last arm of `say_index` is never met
+-- every byte of the list of index sets is a slash, which ends a set, or a letter that stands for an index, so the last arm of `say_index` is never reached
 abbrev known : ℕ → Bool
 known b =
     eqb b slash || (eqb b letter-y || (eqb b letter-z || (eqb b letter-w || (eqb b letter-g || (eqb b letter-f || (eqb b letter-q || (eqb b letter-m || (eqb b letter-d || eqb b letter-s))))))))

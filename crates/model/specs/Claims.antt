@@ -49,7 +49,7 @@ NoneCheaper =
     (l : List ℕ) (N : ℕ) (plan : List ℕ) (ms : List ℤ) (c : ℕ) → certify l N plan ms ≡ Issued c 0
     → (M : ℕ) → 1 ≤ M → (rival : List ℕ) → RivalPlan l M rival → Cheaper l N c M rival → ⊥
 
--- the bound holds of rival plans at M = 1
+-- M = 1 is among the scales that `Bounds` speaks of
 abbrev pub AtScaleOne : Type 0
 AtScaleOne = (D : Data) (N c g : ℕ) → Bounds D N c g → (x : Index → ℕ) → Rival D 1 x → c ≤ N * cost D x + g
 

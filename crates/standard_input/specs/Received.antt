@@ -10,7 +10,7 @@ abbrev pub Within : Received → ℕ → Type 0
 Within (Bytes n) room = n ≤ room
 Within Failed room = Unit {0}
 
--- one read brings the bytes from `done` to a larger number of them within the buffer, or none
+-- after a read that brought bytes there are more than `done` of them, within the buffer; an end or a failure says nothing
 abbrev pub Further : Step → ℕ → ℕ → Type 0
 Further (step.Total n) done room = (done < n) × (n ≤ room)
 Further step.End done room = Unit {0}

@@ -1,5 +1,5 @@
 // Standard input, for the programs that answer one text.
-// What a call of the operating system reads is outside every contract; how much of the buffer it fills is not.
+// What a call of the operating system reads is outside every contract; which part of the buffer it may change is not.
 use libc::STDIN_FILENO;
 ghost use mathlib.Core.Path.{_≡_};
 ghost use Prim.Native.Nat.{_≤_, _<_};

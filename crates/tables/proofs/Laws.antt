@@ -60,7 +60,7 @@ stored l f {k} {v} h below e =
 
 -- The index sets
 
--- every table, table of columns and family has one of their codes, so the last arm of `box_of` is never met
+-- every table, table of columns and family has one of their codes, so the last arm of `box_of` is never reached
 abbrev allBelow : ℕ → List ℕ → Bool
 allBelow n [] = true
 allBelow n (k ∷ ks) = ltb k n && allBelow n ks

@@ -33,10 +33,10 @@ pub fn received(data: &[u32], plan: &[u32], at: &[usize; 43], cat: &[usize; 43],
 }
 
 // Thousandths that a link delivers.
-fn kept_of(loss: u64) -> u64
-    ensures { λ r. ⌜ r ≡ 1000 - loss ⌝ }
+fn kept_of(lost: u64) -> u64
+    ensures { λ r. ⌜ r ≡ 1000 - lost ⌝ }
 {
-    if loss < 1000 { 1000 - loss } else { 0 }
+    if lost < 1000 { 1000 - lost } else { 0 }
 }
 
 // 1000·Σ trans[u,z] over the other zones u: what is sent to zone z.

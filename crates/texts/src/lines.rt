@@ -64,7 +64,7 @@ fn count_on(bytes: usize, width: usize) -> usize
     ensures { λ r. ⌜ r ≡ count bytes width ⌝ }
 {
     if bytes < WORD_LENGTH {
-        return 0; // never reached: the line's word was found, and `opensWith` asks for its four bytes
+        return 0; // a line shorter than its word: none comes here, since `opens` found its four bytes
     }
     let numbers = bytes - WORD_LENGTH;
     let size = width + 1;

@@ -22,7 +22,7 @@ fn none_differ(agreement: &Agreement) {
     assert!(first.is_empty(), "{first:#?}");
 }
 
-/// No difference, and nothing that was not met: 500 seeds meet all that is counted.
+/// No difference, and nothing that was not met; 500 seeds would do for the second.
 #[test]
 fn the_calls_agree_on_seeded_inputs() {
     let failures = measure(1000).failures();
