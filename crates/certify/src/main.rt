@@ -11,14 +11,12 @@ ghost use mathlib.Core.Path.{_≡_};
 ghost use Prim.Native.Nat.{_≤_};
 ghost use lib.ListN.{length};
 ghost use lib.Seq.{sets};
-ghost use Rattle.frames.specs.Format.{certifyText, BindsText};
-ghost use Rattle.certify.specs.Printed.{printed};
+ghost use Rattle.certify.specs.Printed.{printed, LineBinds};
 
-// The printed line's bytes for an input, at the start of `line`, and their number. They are the line of the certificate `certifyText`; the last part
-// says of that certificate that it binds every rival plan (demand 3).
+// The printed line's bytes for an input, at the start of `line`, and their number. They are the line of a certificate that binds every rival plan (demand 3).
 fn answer(input: &[u8], line: &mut [u8; 64]) -> usize
     ensures { λ r. ⌜ (r ≡ length (printed (now (input .entry)))) × ((r ≤ 44) × ((now (line .exit) ≡ sets (now (line .entry)) 0 (printed (now (input .entry))))
-        × BindsText (now (input .entry)) (certifyText (now (input .entry))))) ⌝ }
+        × LineBinds (now (input .entry)))) ⌝ }
 {
     answer_line::answer_line(frames::certify_text(input), line)
 }

@@ -9,7 +9,7 @@ use Rattle.model.specs.declared.Certificate.the-variants.{Withheld}
 use Rattle.model.specs.declared.Refusal.the-variants.{Frame}
 use Rattle.model.specs.Calls.{certify}
 use Rattle.texts.specs.Format.{Text, frameAt, whole, textOf}
-use Rattle.frames.specs.Format.{scaleIn, certifyText, BindsText}
+use Rattle.frames.specs.Format.{scaleIn, BindsText}
 use Rattle.answer_line.specs.Line.{lineOf}
 use Rattle.writer.specs.Writing.{room}
 use Rattle.explanations.specs.declared.Explanation.{Explanation}
@@ -30,9 +30,13 @@ explanationOf (whole s) = certifiedWords (s .ofData) (scaleIn (s .ofScal)) (s .o
 unfoldable pub explainText : List ℕ → List ℕ
 explainText input = explanationOf (textOf input)
 
--- the bytes that are used are the explanation, as far as there is room; the certificate whose line and sentence it is binds every rival plan (demand 3)
+-- demand 3 of a text's explanation: it opens with the line of a certificate that binds every rival plan over the input's data
+abbrev pub LineBinds : List ℕ → Type 0
+LineBinds input = (a : Certificate) × ((rest : List ℕ) × ((explainText input ≡ lineOf a ++ rest) × BindsText input a))
+
+-- the bytes that are used are the explanation, as far as there is room
 pub record Explains (input : List ℕ) (e : Explanation) : Type 0 where
   pub whole-line : length (e .bytes) ≡ room
   pub within : e .used ≤ room
   pub held : take (e .used) (e .bytes) ≡ take room (explainText input)
-  pub binds : BindsText input (certifyText input)
+  pub binds : LineBinds input

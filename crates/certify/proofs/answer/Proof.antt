@@ -1,3 +1,4 @@
+use mathlib.Core.Path.{refl}
 use Rattle.certify.specs.Printed.{printed}
 use borrow.Author.Needs.{needs}
 use Rattle.certify.proofs.answer.Statement.{statement}
@@ -14,7 +15,7 @@ unfolding printed
 returns c =
     let certificate = c .before .before .certify-text .ensures in
     let line = c .answer-line .ensures in
-    rw (← certificate .0) (line .0, (line .1 .0, (line .1 .1, certificate .1)))
+    rw (← certificate .0) (line .0, (line .1 .0, (line .1 .1, (_, (refl, certificate .1)))))
 
 pub answer-spec : {M : Type 1} → statement M
 answer-spec = tie.close (tie.spec certify-text-requires answer-line-requires returns)
