@@ -20,30 +20,30 @@ use Rattle.model.specs.declared.Family.{Family}
 use Rattle.model.specs.Counts.{sets}
 use Rattle.model.specs.Data.{Data}
 use Rattle.model.specs.Columns.{columnBoxes}
-use Rattle.model.specs.Families.{family, families, familyOf, rows, equation}
+use Rattle.model.specs.Families.{family, families, familyOf, rows, equation, familyCount}
 use Rattle.model.specs.Standing.{Placed, standing⁺, standing⁻}
 use Rattle.model.specs.Tests.{multiplier, m⁺, m⁻, priced⁺, priced⁻}
 use Rattle.model.proofs.Standing.{stands}
 use Rattle.tables.specs.Layout.{Counted, Inside}
 use Rattle.tables.proofs.Laws.{getD-map-in}
-use Rattle.duals.specs.Multipliers.{multiplierOf, Dualled}
+use Rattle.duals.specs.Multipliers.{multiplierOf, RowsAt}
 use Rattle.columns.specs.declared.Pair.{Pair}
 use Rattle.columns.specs.Pairs.{noTerms, joined, added, taken, addedIf, takenIf, rowMultiplier, pairOf, pricedPair, familySets, Row}
 
 -- a row's multiplier as its reader asks for it
-family-set : (k : ℕ) → k < 20 → getD familySets k 0 ≡ familyOf k .set
+family-set : (k : ℕ) → k < familyCount → getD familySets k 0 ≡ familyOf k .set
 unfolding familyOf
 family-set k h = getD-map-in (λ (f : Family). f .set) families (family 0 0 false) 0 k h
 
-pub readable : {ms : List ℤ} {rat : List ℕ} {c : Counts} {k y i j s : ℕ} → Row ms rat c k y i j s
-    → Counted c × (Dualled ms rat c × ((k < 20) × Inside c (familyOf k .set) y i j s))
+pub readable : {ms : List ℤ} {rows-at : List ℕ} {c : Counts} {k y i j s : ℕ} → Row ms rows-at c k y i j s
+    → Counted c × (RowsAt ms rows-at c × ((k < familyCount) × Inside c (familyOf k .set) y i j s))
 readable {c} {k} {y} {i} {j} {s} r =
-    (r .counted, (r .dualled, (r .family, subst (λ (n : ℕ). Inside c n y i j s) (family-set k (r .family)) (r .inside))))
+    (r .counted, (r .rowsAt, (r .family, subst (λ (n : ℕ). Inside c n y i j s) (family-set k (r .family)) (r .inside))))
 
-pub row-at : {ms : List ℤ} {rat : List ℕ} {c : Counts} {k y i j s : ℕ} → Counted c → Dualled ms rat c → k < 20
+pub row-at : {ms : List ℤ} {rows-at : List ℕ} {c : Counts} {k y i j s : ℕ} → Counted c → RowsAt ms rows-at c → k < familyCount
     → y < boxOf (sets c) (getD familySets k 0) .years → i < boxOf (sets c) (getD familySets k 0) .firsts
-    → j < boxOf (sets c) (getD familySets k 0) .seconds → s < boxOf (sets c) (getD familySets k 0) .slices → Row ms rat c k y i j s
-row-at n d h hy hi hj hs = record { counted = n; dualled = d; family = h; inside = record { year = hy; «first» = hi; second = hj; slice = hs } }
+    → j < boxOf (sets c) (getD familySets k 0) .seconds → s < boxOf (sets c) (getD familySets k 0) .slices → Row ms rows-at c k y i j s
+row-at n d h hy hi hj hs = record { counted = n; rowsAt = d; family = h; inside = record { year = hy; «first» = hi; second = hj; slice = hs } }
 
 pair-is : {u v d e : ℕ} → u ≡ v → d ≡ e → _≡_ {A = Pair} (record { up = cap u; down = cap d }) (record { up = cap v; down = cap e })
 pair-is p q = ap₂ (λ (u d : ℕ). record { up = cap u; down = cap d }) p q

@@ -16,9 +16,9 @@ use Rattle.model.specs.Families.{outOfService}
 use Rattle.model.specs.Standing.{Placed}
 use Rattle.model.specs.Tests.{entriesFault}
 use Rattle.model.proofs.Sound.{entry-range, placed}
-use Rattle.tables.specs.Layout.{Laid}
+use Rattle.tables.specs.Layout.{TablesAt}
 
-module _ {l at : List ℕ} {c : Counts} (n : Laid l at c) (sound : entriesFault (read l) ≡ fine) where
+module _ {l tables-at : List ℕ} {c : Counts} (n : TablesAt l tables-at c) (sound : entriesFault (read l) ≡ fine) where
   pub sound-placed : Placed (read l)
   sound-placed = placed (read l) sound (rw (n .counts) (n .counted .someZones)) (rw (n .counts) (n .counted .someFuels))
 

@@ -14,9 +14,9 @@ use Rattle.model.specs.declared.Family.{Family}
 use Rattle.model.specs.Data.{Data, read}
 use Rattle.model.specs.Families.{families, rowBoxes}
 use Rattle.model.specs.Tests.{priced⁺, priced⁻, entriesFault}
-use Rattle.tables.specs.Layout.{Counted, Laid, Inside}
+use Rattle.tables.specs.Layout.{Counted, TablesAt, Inside}
 use Rattle.duals.specs.declared.Multiplier.{Multiplier}
-use Rattle.duals.specs.Multipliers.{multiplierOf, Dualled}
+use Rattle.duals.specs.Multipliers.{multiplierOf, RowsAt}
 use Rattle.columns.specs.declared.Pair.{Pair}
 
 -- no terms
@@ -64,14 +64,14 @@ abbrev pub familySets : List ℕ
 familySets = map (λ (f : Family). f .set) families
 
 -- the multiplier of row y, i, j, s of family k can be read
-pub record Row (ms : List ℤ) (rat : List ℕ) (c : Counts) (k y i j s : ℕ) : Type 0 where
+pub record Row (ms : List ℤ) (rows-at : List ℕ) (c : Counts) (k y i j s : ℕ) : Type 0 where
   pub counted : Counted c
-  pub dualled : Dualled ms rat c
+  pub rowsAt : RowsAt ms rows-at c
   pub family : k < length familySets
   pub inside : Inside c (getD familySets k 0) y i j s
 
 -- data that passed its tests, and a multiplier for every row
-pub record Ready (l at : List ℕ) (ms : List ℤ) (rat : List ℕ) (c : Counts) : Type 0 where
-  pub laid : Laid l at c
+pub record Ready (l tables-at : List ℕ) (ms : List ℤ) (rows-at : List ℕ) (c : Counts) : Type 0 where
+  pub tablesAt : TablesAt l tables-at c
   pub sound : entriesFault (read l) ≡ fine
-  pub dualled : Dualled ms rat c
+  pub rowsAt : RowsAt ms rows-at c

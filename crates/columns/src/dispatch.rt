@@ -24,6 +24,7 @@ use crate::readers::hourly;
 use crate::readers::is_vre;
 use crate::readers::on_min_load_day;
 use crate::readers::zone_of;
+use duals::RowStarts;
 use model::Counts;
 use parts::slices::season_of;
 use tables::entries::by_slice;
@@ -32,79 +33,80 @@ use tables::names::DURATION;
 use tables::names::EMISSION;
 use tables::names::ERR;
 use tables::names::HEAT_RATE;
+use tables::starts::Starts;
 ghost use mathlib.Core.Path.{_≡_};
 ghost use Prim.Native.Nat.{_<_};
 ghost use Rattle.model.specs.Counts.{slicesOf};
 ghost use Rattle.model.specs.Data.{read};
 ghost use Rattle.model.specs.Standing.{genIn⁺, genIn⁻, reserveIn⁺, reserveIn⁻};
 ghost use Rattle.tables.specs.Layout.{Counted};
-ghost use Rattle.duals.specs.Multipliers.{Dualled};
+ghost use Rattle.duals.specs.Multipliers.{RowsAt};
 ghost use Rattle.columns.specs.Pairs.{pairOf, Ready};
 ghost use Rattle.columns.specs.Groups.{genInZone⁺, genInZone⁻, genInLoad⁺, genInLoad⁻, genInRamps⁺, genInRamps⁻};
 
 // The rows of the plant's zone: families 1, 3, 17, 19 and 20.
-fn gen_in_zone(data: &[u32], ms: &[i64], at: &[usize; 43], rat: &[usize; 21], c: Counts, y: usize, g: usize, s: usize) -> Pair
-    requires { ⌜ Ready (now «data») (now at) (now ms) (now rat) c × ((y < c .years) × ((g < c .plants) × (s < slicesOf c))) ⌝ }
+fn gen_in_zone(data: &[u32], ms: &[i64], tables_at: &Starts, rows_at: &RowStarts, c: Counts, y: usize, g: usize, s: usize) -> Pair
+    requires { ⌜ Ready (now «data») (now «tables_at») (now ms) (now «rows_at») c × ((y < c .years) × ((g < c .plants) × (s < slicesOf c))) ⌝ }
     ensures { λ r. ⌜ r ≡ pairOf c (now (ms .entry)) (genInZone⁺ (read (now («data» .entry))) y g s) (genInZone⁻ (read (now («data» .entry))) y g s) ⌝ }
 {
-    let z = zone_of(data, at, c, g);
-    let f = fuel_of(data, at, c, g);
-    let err = single(data, at, c, ERR);
-    let heat = hourly(data, at, c, HEAT_RATE, g, s);
-    let emitted = hourly(data, at, c, EMISSION, g, s);
-    let p = add_row(none(), 1000, ms, rat, c, BALANCE, y, z, 0, s);
-    let q = take_row_if(is_vre(data, at, c, g), p, err, ms, rat, c, SPINNING, y, z, 0, s);
-    let r = take_row(q, heat, ms, rat, c, FUEL_USE, y, z, f, 0);
-    let t = take_row(r, emitted, ms, rat, c, ZONE_EMISSION, y, z, 0, 0);
-    take_row(t, emitted, ms, rat, c, SYSTEM_EMISSION, y, 0, 0, 0)
+    let z = zone_of(data, tables_at, c, g);
+    let f = fuel_of(data, tables_at, c, g);
+    let err = single(data, tables_at, c, ERR);
+    let heat = hourly(data, tables_at, c, HEAT_RATE, g, s);
+    let emitted = hourly(data, tables_at, c, EMISSION, g, s);
+    let p = add_row(none(), 1000, ms, rows_at, c, BALANCE, y, z, 0, s);
+    let q = take_row_if(is_vre(data, tables_at, c, g), p, err, ms, rows_at, c, SPINNING, y, z, 0, s);
+    let r = take_row(q, heat, ms, rows_at, c, FUEL_USE, y, z, f, 0);
+    let t = take_row(r, emitted, ms, rows_at, c, ZONE_EMISSION, y, z, 0, 0);
+    take_row(t, emitted, ms, rows_at, c, SYSTEM_EMISSION, y, 0, 0, 0)
 }
 
 // The rows that limit the plant in its slice and season: families 5, 9, 10 and 11.
-fn gen_in_load(data: &[u32], ms: &[i64], at: &[usize; 43], rat: &[usize; 21], c: Counts, y: usize, g: usize, s: usize) -> Pair
-    requires { ⌜ Ready (now «data») (now at) (now ms) (now rat) c × ((y < c .years) × ((g < c .plants) × (s < slicesOf c))) ⌝ }
+fn gen_in_load(data: &[u32], ms: &[i64], tables_at: &Starts, rows_at: &RowStarts, c: Counts, y: usize, g: usize, s: usize) -> Pair
+    requires { ⌜ Ready (now «data») (now «tables_at») (now ms) (now «rows_at») c × ((y < c .years) × ((g < c .plants) × (s < slicesOf c))) ⌝ }
     ensures { λ r. ⌜ r ≡ pairOf c (now (ms .entry)) (genInLoad⁺ (read (now («data» .entry))) y g s) (genInLoad⁻ (read (now («data» .entry))) y g s) ⌝ }
 {
     let q = season_of(c, s);
-    let hours = 1000 * by_slice(data, at, c, DURATION, s);
-    let least = on_min_load_day(data, at, c, s);
-    let p = add_row_if(least, none(), 1000, ms, rat, c, MINIMUM_LOAD, y, g, 0, s);
-    let r = take_row(p, 1000, ms, rat, c, LOADING, y, g, 0, s);
-    let t = take_row(r, hours, ms, rat, c, AVAILABLE, y, g, 0, q);
-    take_row_if(is_vre(data, at, c, g), t, 1000, ms, rat, c, PROFILED, y, g, 0, s)
+    let hours = 1000 * by_slice(data, tables_at, c, DURATION, s);
+    let least = on_min_load_day(data, tables_at, c, s);
+    let p = add_row_if(least, none(), 1000, ms, rows_at, c, MINIMUM_LOAD, y, g, 0, s);
+    let r = take_row(p, 1000, ms, rows_at, c, LOADING, y, g, 0, s);
+    let t = take_row(r, hours, ms, rows_at, c, AVAILABLE, y, g, 0, q);
+    take_row_if(is_vre(data, tables_at, c, g), t, 1000, ms, rows_at, c, PROFILED, y, g, 0, s)
 }
 
 // The ramps of families 7 and 8, from the hour before and into the hour after.
-fn gen_in_ramps(ms: &[i64], rat: &[usize; 21], c: Counts, y: usize, g: usize, s: usize) -> Pair
-    requires { ⌜ Counted c × (Dualled (now ms) (now rat) c × ((y < c .years) × ((g < c .plants) × (s < slicesOf c)))) ⌝ }
+fn gen_in_ramps(ms: &[i64], rows_at: &RowStarts, c: Counts, y: usize, g: usize, s: usize) -> Pair
+    requires { ⌜ Counted c × (RowsAt (now ms) (now «rows_at») c × ((y < c .years) × ((g < c .plants) × (s < slicesOf c)))) ⌝ }
     ensures { λ r. ⌜ r ≡ pairOf c (now (ms .entry)) (genInRamps⁺ c y g s) (genInRamps⁻ c y g s) ⌝ }
 {
     let next = s + 1;
     let before = after_first_hour(c, s);
     let after = after_first_hour(c, next);
-    let p = add_row_if(before, none(), 1000, ms, rat, c, RAMP_DOWN, y, g, 0, s);
-    let q = add_row_if(after, p, 1000, ms, rat, c, RAMP_UPWARD, y, g, 0, next);
-    let r = take_row_if(after, q, 1000, ms, rat, c, RAMP_DOWN, y, g, 0, next);
-    take_row_if(before, r, 1000, ms, rat, c, RAMP_UPWARD, y, g, 0, s)
+    let p = add_row_if(before, none(), 1000, ms, rows_at, c, RAMP_DOWN, y, g, 0, s);
+    let q = add_row_if(after, p, 1000, ms, rows_at, c, RAMP_UPWARD, y, g, 0, next);
+    let r = take_row_if(after, q, 1000, ms, rows_at, c, RAMP_DOWN, y, g, 0, next);
+    take_row_if(before, r, 1000, ms, rows_at, c, RAMP_UPWARD, y, g, 0, s)
 }
 
 // Families 1, 3, 5, 7 to 11, 17, 19 and 20.
-pub fn gen_column(data: &[u32], ms: &[i64], at: &[usize; 43], rat: &[usize; 21], c: Counts, y: usize, g: usize, s: usize) -> Pair
-    requires { ⌜ Ready (now «data») (now at) (now ms) (now rat) c × ((y < c .years) × ((g < c .plants) × (s < slicesOf c))) ⌝ }
+pub fn gen_column(data: &[u32], ms: &[i64], tables_at: &Starts, rows_at: &RowStarts, c: Counts, y: usize, g: usize, s: usize) -> Pair
+    requires { ⌜ Ready (now «data») (now «tables_at») (now ms) (now «rows_at») c × ((y < c .years) × ((g < c .plants) × (s < slicesOf c))) ⌝ }
     ensures { λ r. ⌜ r ≡ pairOf c (now (ms .entry)) (genIn⁺ (read (now («data» .entry))) y g s) (genIn⁻ (read (now («data» .entry))) y g s) ⌝ }
 {
-    let zone = gen_in_zone(data, ms, at, rat, c, y, g, s);
-    let load = gen_in_load(data, ms, at, rat, c, y, g, s);
-    let ramps = gen_in_ramps(ms, rat, c, y, g, s);
+    let zone = gen_in_zone(data, ms, tables_at, rows_at, c, y, g, s);
+    let load = gen_in_load(data, ms, tables_at, rows_at, c, y, g, s);
+    let ramps = gen_in_ramps(ms, rows_at, c, y, g, s);
     join(join(zone, load), ramps)
 }
 
 // Families 3, 5 and 6.
-pub fn reserve_column(data: &[u32], ms: &[i64], at: &[usize; 43], rat: &[usize; 21], c: Counts, y: usize, g: usize, s: usize) -> Pair
-    requires { ⌜ Ready (now «data») (now at) (now ms) (now rat) c × ((y < c .years) × ((g < c .plants) × (s < slicesOf c))) ⌝ }
+pub fn reserve_column(data: &[u32], ms: &[i64], tables_at: &Starts, rows_at: &RowStarts, c: Counts, y: usize, g: usize, s: usize) -> Pair
+    requires { ⌜ Ready (now «data») (now «tables_at») (now ms) (now «rows_at») c × ((y < c .years) × ((g < c .plants) × (s < slicesOf c))) ⌝ }
     ensures { λ r. ⌜ r ≡ pairOf c (now (ms .entry)) (reserveIn⁺ (read (now («data» .entry))) y g s) (reserveIn⁻ (read (now («data» .entry))) y g s) ⌝ }
 {
-    let z = zone_of(data, at, c, g);
-    let p = add_row(none(), 1000, ms, rat, c, SPINNING, y, z, 0, s);
-    let q = take_row(p, 1000, ms, rat, c, LOADING, y, g, 0, s);
-    take_row(q, 1000, ms, rat, c, OFFER, y, g, 0, s)
+    let z = zone_of(data, tables_at, c, g);
+    let p = add_row(none(), 1000, ms, rows_at, c, SPINNING, y, z, 0, s);
+    let q = take_row(p, 1000, ms, rows_at, c, LOADING, y, g, 0, s);
+    take_row(q, 1000, ms, rows_at, c, OFFER, y, g, 0, s)
 }

@@ -10,7 +10,9 @@ use crate::pairs::none;
 use crate::pairs::take_row;
 use crate::pairs::take_row_if;
 use crate::readers::delivered;
+use duals::RowStarts;
 use model::Counts;
+use tables::starts::Starts;
 ghost use mathlib.Core.Path.{_≡_};
 ghost use Prim.Native.Nat.{_<_};
 ghost use Rattle.sums.specs.Linear.{nothing, _·_};
@@ -19,49 +21,49 @@ ghost use Rattle.model.specs.Data.{read};
 ghost use Rattle.model.specs.Families.{row};
 ghost use Rattle.model.specs.Standing.{transIn⁺, transIn⁻};
 ghost use Rattle.tables.specs.Layout.{Counted};
-ghost use Rattle.duals.specs.Multipliers.{Dualled};
+ghost use Rattle.duals.specs.Multipliers.{RowsAt};
 ghost use Rattle.columns.specs.Pairs.{pairOf, Ready};
 
 // From z to w: families 1 (z sends, w receives less the loss), 2 and 3.
-pub fn trans_column(data: &[u32], ms: &[i64], at: &[usize; 43], rat: &[usize; 21], c: Counts, y: usize, z: usize, w: usize, s: usize) -> Pair
-    requires { ⌜ Ready (now «data») (now at) (now ms) (now rat) c × ((y < c .years) × ((z < c .zones) × ((w < c .zones) × (s < slicesOf c)))) ⌝ }
+pub fn trans_column(data: &[u32], ms: &[i64], tables_at: &Starts, rows_at: &RowStarts, c: Counts, y: usize, z: usize, w: usize, s: usize) -> Pair
+    requires { ⌜ Ready (now «data») (now «tables_at») (now ms) (now «rows_at») c × ((y < c .years) × ((z < c .zones) × ((w < c .zones) × (s < slicesOf c)))) ⌝ }
     ensures { λ r. ⌜ r ≡ pairOf c (now (ms .entry)) (transIn⁺ (read (now («data» .entry))) y z w s) (transIn⁻ (read (now («data» .entry))) y z w s) ⌝ }
 {
-    let kept = delivered(data, at, c, y, z, w);
-    let p = add_row_if(z != w, none(), kept, ms, rat, c, BALANCE, y, w, 0, s);
-    let q = take_row_if(z != w, p, 1000, ms, rat, c, BALANCE, y, z, 0, s);
-    let r = take_row(q, 1, ms, rat, c, TRANSFER, y, z, w, s);
-    take_row_if(z != w, r, 1000, ms, rat, c, SPINNING, y, w, 0, s)
+    let kept = delivered(data, tables_at, c, y, z, w);
+    let p = add_row_if(z != w, none(), kept, ms, rows_at, c, BALANCE, y, w, 0, s);
+    let q = take_row_if(z != w, p, 1000, ms, rows_at, c, BALANCE, y, z, 0, s);
+    let r = take_row(q, 1, ms, rows_at, c, TRANSFER, y, z, w, s);
+    take_row_if(z != w, r, 1000, ms, rows_at, c, SPINNING, y, w, 0, s)
 }
 
 // Family 1.
-pub fn unmet_column(ms: &[i64], rat: &[usize; 21], c: Counts, y: usize, z: usize, s: usize) -> Pair
-    requires { ⌜ Counted c × (Dualled (now ms) (now rat) c × ((y < c .years) × ((z < c .zones) × (s < slicesOf c)))) ⌝ }
+pub fn unmet_column(ms: &[i64], rows_at: &RowStarts, c: Counts, y: usize, z: usize, s: usize) -> Pair
+    requires { ⌜ Counted c × (RowsAt (now ms) (now «rows_at») c × ((y < c .years) × ((z < c .zones) × (s < slicesOf c)))) ⌝ }
     ensures { λ r. ⌜ r ≡ pairOf c (now (ms .entry)) (1 · row 1 y z 0 s) nothing ⌝ }
 {
-    add_row(none(), 1, ms, rat, c, BALANCE, y, z, 0, s)
+    add_row(none(), 1, ms, rows_at, c, BALANCE, y, z, 0, s)
 }
 
 // Family 1.
-pub fn surplus_column(ms: &[i64], rat: &[usize; 21], c: Counts, y: usize, z: usize, s: usize) -> Pair
-    requires { ⌜ Counted c × (Dualled (now ms) (now rat) c × ((y < c .years) × ((z < c .zones) × (s < slicesOf c)))) ⌝ }
+pub fn surplus_column(ms: &[i64], rows_at: &RowStarts, c: Counts, y: usize, z: usize, s: usize) -> Pair
+    requires { ⌜ Counted c × (RowsAt (now ms) (now «rows_at») c × ((y < c .years) × ((z < c .zones) × (s < slicesOf c)))) ⌝ }
     ensures { λ r. ⌜ r ≡ pairOf c (now (ms .entry)) nothing (1 · row 1 y z 0 s) ⌝ }
 {
-    take_row(none(), 1, ms, rat, c, BALANCE, y, z, 0, s)
+    take_row(none(), 1, ms, rows_at, c, BALANCE, y, z, 0, s)
 }
 
 // Family 3.
-pub fn spinshort_column(ms: &[i64], rat: &[usize; 21], c: Counts, y: usize, z: usize, s: usize) -> Pair
-    requires { ⌜ Counted c × (Dualled (now ms) (now rat) c × ((y < c .years) × ((z < c .zones) × (s < slicesOf c)))) ⌝ }
+pub fn spinshort_column(ms: &[i64], rows_at: &RowStarts, c: Counts, y: usize, z: usize, s: usize) -> Pair
+    requires { ⌜ Counted c × (RowsAt (now ms) (now «rows_at») c × ((y < c .years) × ((z < c .zones) × (s < slicesOf c)))) ⌝ }
     ensures { λ r. ⌜ r ≡ pairOf c (now (ms .entry)) (1 · row 3 y z 0 s) nothing ⌝ }
 {
-    add_row(none(), 1, ms, rat, c, SPINNING, y, z, 0, s)
+    add_row(none(), 1, ms, rows_at, c, SPINNING, y, z, 0, s)
 }
 
 // Family 4.
-pub fn firmshort_column(ms: &[i64], rat: &[usize; 21], c: Counts, y: usize, z: usize) -> Pair
-    requires { ⌜ Counted c × (Dualled (now ms) (now rat) c × ((y < c .years) × (z < c .zones))) ⌝ }
+pub fn firmshort_column(ms: &[i64], rows_at: &RowStarts, c: Counts, y: usize, z: usize) -> Pair
+    requires { ⌜ Counted c × (RowsAt (now ms) (now «rows_at») c × ((y < c .years) × (z < c .zones))) ⌝ }
     ensures { λ r. ⌜ r ≡ pairOf c (now (ms .entry)) (1 · row 4 y z 0 0) nothing ⌝ }
 {
-    add_row(none(), 1, ms, rat, c, FIRM, y, z, 0, 0)
+    add_row(none(), 1, ms, rows_at, c, FIRM, y, z, 0, 0)
 }

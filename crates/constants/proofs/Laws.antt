@@ -14,10 +14,10 @@ use Rattle.sums.specs.Index.{index}
 use Rattle.sums.proofs.Lists.{Alls, at-place, _and_}
 use Rattle.model.specs.declared.Counts.{Counts}
 use Rattle.model.specs.Data.{Data, read, ee, prm, tableBoxes, afterFirstHour, onMinLoadDay, isVre}
-use Rattle.model.specs.Families.{Equation, familyOf, equations, empty, outOfService, loading, offer, rampDown, rampUpward, minimumLoad, available, profiled, life, fixed}
+use Rattle.model.specs.Families.{Equation, familyOf, equations, empty, outOfService, loading, offer, rampDown, rampUpward, minimumLoad, available, profiled, life, fixed, familyCount}
 use Rattle.model.specs.Tests.{entriesFault}
 use Rattle.model.proofs.Sound.{entry-range}
-use Rattle.tables.specs.Layout.{Laid, Inside}
+use Rattle.tables.specs.Layout.{TablesAt, Inside}
 use Rattle.tables.proofs.Laws.{NoneOf, none-of}
 use Rattle.constants.specs.declared.Constant.{Constant}
 use Rattle.constants.specs.Constants.{constantOf, noConstant, hasConstant}
@@ -61,7 +61,7 @@ module _ (D : Data) (y i j s : ℕ) where
       and tt and under (outOfService D y i) and (refl, refl)
       and tt and tt and tt and tt and tt and tt and tt
 
-  pub without : (k : ℕ) → k < 20 → hasConstant k ≡ false → noConstant ≡ constantOf D (index k y i j s)
+  pub without : (k : ℕ) → k < familyCount → hasConstant k ≡ false → noConstant ≡ constantOf D (index k y i j s)
   unfolding constantOf
   without k l h =
       let t : NoneUnless false (getD (equations D y i j s) k empty) = rw h at (at-place (λ k e. NoneUnless (hasConstant k) e) (equations D y i j s) empty each-without k l) in
@@ -78,7 +78,7 @@ flag-off n e h = ne-eqb _ n (λ q. h (e ∙ q))
 
 -- Ranges, of data that passed refusal 3
 
-module _ {l at : List ℕ} {c : Counts} {z : ℕ} (n : Laid l at c) (e : entriesFault (read l) ≡ fine) (hz : z < c .zones) where
+module _ {l tables-at : List ℕ} {c : Counts} {z : ℕ} (n : TablesAt l tables-at c) (e : entriesFault (read l) ≡ fine) (hz : z < c .zones) where
   pub few-ee : {y : ℕ} → y < c .years → ee (read l) y z ≤ 5000
   unfolding tableBoxes
   few-ee {y} hy = entry-range (read l) e 26 y z 0 0 (omega arith, rw (n .counts) hy, rw (n .counts) hz, omega arith, omega arith) .1
@@ -93,5 +93,5 @@ pub inside-at : {c : Counts} {k y i j s : ℕ} (K : ℕ) → k ≡ K → Inside 
 inside-at K e m = rw e at m
 
 -- the key of the last arm
-pub last : {k : ℕ} → k < 20 → NoneOf 19 k → k ≡ 19
+pub last : {k : ℕ} → k < familyCount → NoneOf 19 k → k ≡ 19
 last h rest = let l = none-of 19 rest in omega arith

@@ -36,7 +36,7 @@ unfoldable pub nettedOf : Constant → Constant
 nettedOf k = record { adds = k .adds - k .takes; takes = k .takes - k .adds }
 
 -- the thousandths of zone z in year y, within what refusal 3 allows
-pub record Rated (D : Data) (y z : ℕ) (r : Rates) : Type 0 where
+pub record ZoneRates (D : Data) (y z : ℕ) (r : Rates) : Type 0 where
   pub ofEe : r .ee ≡ ee D y z
   pub ofMargin : r .margin ≡ 1000 + prm D z
   pub fewEe : r .ee ≤ 5000

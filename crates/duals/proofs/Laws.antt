@@ -29,12 +29,12 @@ use Rattle.model.specs.declared.Refusal.the-variants.{MultiplierCount, Multipli
 use Rattle.model.specs.declared.Shape.{Shape}
 use Rattle.model.specs.Counts.{sets}
 use Rattle.model.specs.Data.{Data}
-use Rattle.model.specs.Families.{family, families, familyOf, rowBoxes, shapeOf}
+use Rattle.model.specs.Families.{family, families, familyOf, rowBoxes, shapeOf, familyCount}
 use Rattle.model.specs.Tests.{unless, part⁺, part⁻, mostMultiplier, multiplier, multiplierCountFault, multiplierFault, multipliersFault}
 use Rattle.tables.specs.Layout.{outcome, Inside}
 use Rattle.tables.proofs.Laws.{getD-map-in, small-set}
 use Rattle.duals.specs.declared.Multiplier as part
-use Rattle.duals.specs.Multipliers.{multiplierOf, Shaped, Dualled}
+use Rattle.duals.specs.Multipliers.{multiplierOf, Shaped, RowsAt}
 
 -- The parts of a signed number
 
@@ -69,34 +69,34 @@ ups {y = negsuc n} e f q = let z : _≡_ {A = ℕ} 0 1 = cc in absurd (omega ari
 
 -- The families of rows
 
-pub row-kinds : (c : Counts) → length (rowBoxes c) ≡ 20
+pub row-kinds : (c : Counts) → length (rowBoxes c) ≡ familyCount
 unfolding rowBoxes
 row-kinds c = refl
 
 -- after the last family the rows end
-pub rows-end : (c : Counts) {n : ℕ} → n ≡ start (rowBoxes c) 20 → n ≡ count (rowBoxes c)
+pub rows-end : (c : Counts) {n : ℕ} → n ≡ start (rowBoxes c) familyCount → n ≡ count (rowBoxes c)
 rows-end c e = rw (row-kinds c) e
 
 -- a family's index set
 -- the key of the last arm of a match over the families
-pub the-last : {k : ℕ} → k < 20 → 19 ≤ k → k ≡ 19
+pub the-last : {k : ℕ} → k < familyCount → 19 ≤ k → k ≡ 19
 the-last h l = omega arith
 
-pub family-box : (c : Counts) {k : ℕ} → k < 20 → boxOf (rowBoxes c) k ≡ boxOf (sets c) (familyOf k .set)
+pub family-box : (c : Counts) {k : ℕ} → k < familyCount → boxOf (rowBoxes c) k ≡ boxOf (sets c) (familyOf k .set)
 unfolding familyOf rowBoxes
 family-box c {k} h = getD-map-in (λ (f : Family). boxOf (sets c) (f .set)) families (family 0 0 false) (box 0 0 0 0) k h
 
 module _ {shape : Shape} (h : Shaped shape) where
-  pub all-sizes : length (shape .sizes) ≡ 20
+  pub all-sizes : length (shape .sizes) ≡ familyCount
   unfolding shapeOf rowBoxes
   all-sizes = ap (λ (s : Shape). length (s .sizes)) (h .sized)
 
-  pub size-at : {k : ℕ} → k < 20 → getD (shape .sizes) k 0 ≡ volume (boxOf (rowBoxes (shape .counts)) k)
+  pub size-at : {k : ℕ} → k < familyCount → getD (shape .sizes) k 0 ≡ volume (boxOf (rowBoxes (shape .counts)) k)
   unfolding shapeOf rowBoxes
   size-at {k} l =
       ap (λ (s : Shape). getD (s .sizes) k 0) (h .sized) ∙ getD-map-in (λ (b : Box). volume b) (rowBoxes (shape .counts)) (box 0 0 0 0) 0 k l
 
-  pub few-rows : {k : ℕ} → k < 20 → getD (shape .sizes) k 0 ≤ 983040
+  pub few-rows : {k : ℕ} → k < familyCount → getD (shape .sizes) k 0 ≤ 983040
   few-rows {k} l =
       let s = small-set (h .counted) (familyOf k .set) in
       omega (
@@ -107,12 +107,12 @@ module _ {shape : Shape} (h : Shaped shape) where
       )
 
   -- one more start as the loop makes it
-  pub start-next : {k next : ℕ} → k < 20 → next ≡ start (rowBoxes (shape .counts)) k
+  pub start-next : {k next : ℕ} → k < familyCount → next ≡ start (rowBoxes (shape .counts)) k
       → next + getD (shape .sizes) k 0 ≡ start (rowBoxes (shape .counts)) (k + 1)
   start-next {k} l e = omega (arith, e, size-at l, sum-one-more k (λ i. volume (boxOf (rowBoxes (shape .counts)) i)))
 
   -- the rows of a family are rows
-  pub family-row : {k i n : ℕ} → n ≡ count (rowBoxes (shape .counts)) → k < 20 → i < getD (shape .sizes) k 0 → start (rowBoxes (shape .counts)) k + i < n
+  pub family-row : {k i n : ℕ} → n ≡ count (rowBoxes (shape .counts)) → k < familyCount → i < getD (shape .sizes) k 0 → start (rowBoxes (shape .counts)) k + i < n
   family-row {k} e l h =
       let boxes = rowBoxes (shape .counts) in
       let size : ℕ → ℕ = λ i. volume (boxOf boxes i) in
@@ -120,11 +120,11 @@ module _ {shape : Shape} (h : Shaped shape) where
 
 -- A row's place among the multipliers
 
-module _ {ms : List ℤ} {rat : List ℕ} {c : Counts} {k y i j s : ℕ} (d : Dualled ms rat c) (l : k < 20) (m : Inside c (familyOf k .set) y i j s) where
-  pub row-is : getD rat k 0 + inside (boxOf (sets c) (familyOf k .set)) y i j s ≡ number (rowBoxes c) (index k y i j s)
+module _ {ms : List ℤ} {rows-at : List ℕ} {c : Counts} {k y i j s : ℕ} (d : RowsAt ms rows-at c) (l : k < familyCount) (m : Inside c (familyOf k .set) y i j s) where
+  pub row-is : getD rows-at k 0 + inside (boxOf (sets c) (familyOf k .set)) y i j s ≡ number (rowBoxes c) (index k y i j s)
   row-is = omega (arith, d .starts k (omega arith), ap (λ (b : Box). inside b y i j s) (family-box c l))
 
-  pub row-below : getD rat k 0 + inside (boxOf (sets c) (familyOf k .set)) y i j s < length ms
+  pub row-below : getD rows-at k 0 + inside (boxOf (sets c) (familyOf k .set)) y i j s < length ms
   row-below =
       let e = family-box c l in
       let member : Member (rowBoxes c) (index k y i j s) = (rw (row-kinds c) l, rw e (m .year), rw e (m .first), rw e (m .second), rw e (m .slice)) in
@@ -140,13 +140,13 @@ module _ (ms : List ℤ) where
   abbrev pub familyFault : Counts → ℕ → Fault Refusal
   familyFault c k = upto (volume (boxOf (rowBoxes c) k)) (λ v. rowFault (familyOf k .equal) (start (rowBoxes c) k + v))
 
-  pub all-multipliers : (D : Data) {c : Counts} → D .counts ≡ c → multipliersFault D ms ≡ upto 20 (familyFault c)
+  pub all-multipliers : (D : Data) {c : Counts} → D .counts ≡ c → multipliersFault D ms ≡ upto familyCount (familyFault c)
   unfolding multipliersFault multiplierFault multiplier rowFault
   all-multipliers D e =
       let boxes = rowBoxes (D .counts) in
       ap (upto (length boxes)) (fun-ext (λ k. box-first (boxOf boxes k) (λ v. rowFault (familyOf k .equal) (start boxes k + v))))
       ∙ ap (λ (n : ℕ). upto n (familyFault (D .counts))) (row-kinds (D .counts))
-      ∙ ap (λ (c : Counts). upto 20 (familyFault c)) e
+      ∙ ap (λ (c : Counts). upto familyCount (familyFault c)) e
 
   -- what the test of one multiplier says
   pub tested : (equal : Bool) (n : ℕ) {ok : Bool} {m : part.Multiplier} → m ≡ multiplierOf (getD ms n (pos 0))
@@ -155,7 +155,7 @@ module _ (ms : List ℤ) where
   tested equal n e q = rw (q, e)
 
   -- a family's rows as the loop has them
-  pub family-faults : {shape : Shape} {k : ℕ} {f : Family} → Shaped shape → k < 20 → f ≡ familyOf k
+  pub family-faults : {shape : Shape} {k : ℕ} {f : Family} → Shaped shape → k < familyCount → f ≡ familyOf k
       → familyFault (shape .counts) k ≡ upto (getD (shape .sizes) k 0) (λ v. rowFault (f .equal) (start (rowBoxes (shape .counts)) k + v))
   family-faults h l e = rw (size-at h l, e)
 

@@ -22,6 +22,6 @@ pub record Shaped (shape : Shape) : Type 0 where
   pub sized : shape ≡ shapeOf (shape .counts)
 
 -- a multiplier for every row, and the row numbers at which the families start
-pub record Dualled (ms : List ℤ) (rat : List ℕ) (c : Counts) : Type 0 where
+pub record RowsAt (ms : List ℤ) (rows-at : List ℕ) (c : Counts) : Type 0 where
   pub whole : length ms ≡ count (rowBoxes c)
-  pub starts : (k : ℕ) → k ≤ length families → getD rat k 0 ≡ start (rowBoxes c) k
+  pub starts : (k : ℕ) → k ≤ length families → getD rows-at k 0 ≡ start (rowBoxes c) k

@@ -1,6 +1,7 @@
 // The multipliers that a caller hands to certify: the two parts of each, a row's multiplier by family and index, and refusals 9 and 10.
 // Signed numbers are met in `parts_of` and `multiplier_in` only.
 use model::Counts;
+use model::FAMILY_COUNT;
 use model::Outcome;
 use model::Refusal;
 use model::Shape;
@@ -8,7 +9,7 @@ use tables::sets::family_at;
 use tables::sets::inside_of;
 ghost use mathlib.Core.Path.{_≡_};
 ghost use mathlib.Core.Bool.{_&&_};
-ghost use Prim.Native.Nat.{ℕ, _≤_, _<_};
+ghost use Prim.Native.Nat.{ℕ, _+_, _≤_, _<_};
 ghost use lib.Dec.{leb};
 ghost use lib.IntN.{pos};
 ghost use lib.ListN.{length, getD};
@@ -16,10 +17,10 @@ ghost use Rattle.sums.specs.Sum.{on};
 ghost use Rattle.sums.specs.Span.{orElse};
 ghost use Rattle.sums.specs.Index.{index, start, count, number};
 ghost use Rattle.model.specs.Data.{Data};
-ghost use Rattle.model.specs.Families.{familyOf, rowBoxes};
+ghost use Rattle.model.specs.Families.{familyOf, rowBoxes, familyCount};
 ghost use Rattle.model.specs.Tests.{mostMultiplier, multiplierCountFault, multipliersFault};
 ghost use Rattle.tables.specs.Layout.{outcome, Counted, Inside};
-ghost use Rattle.duals.specs.Multipliers.{multiplierOf, Shaped, Dualled};
+ghost use Rattle.duals.specs.Multipliers.{multiplierOf, Shaped, RowsAt};
 
 // The largest size of a multiplier, 2^40.
 const MOST_MULTIPLIER: u64 = 0x100_0000_0000;
@@ -49,23 +50,27 @@ pub fn multiplier_in(ms: &[i64], row: usize) -> Multiplier
 }
 
 // The row number at which each family starts, and after the last of them the number of rows.
-pub fn row_starts(shape: Shape) -> [usize; 21]
+pub const ROW_STARTS: usize = FAMILY_COUNT + 1;
+pub type RowStarts = [usize; ROW_STARTS];
+
+// Made of the sizes, one after the other.
+pub fn row_starts(shape: Shape) -> RowStarts
     requires { ⌜ Shaped shape ⌝ }
-    ensures { λ r. ⌜ (length r ≡ 21) × ((k : ℕ) → k ≤ 20 → getD r k 0 ≡ start (rowBoxes (shape .counts)) k) ⌝ }
+    ensures { λ r. ⌜ (length r ≡ familyCount + 1) × ((k : ℕ) → k ≤ familyCount → getD r k 0 ≡ start (rowBoxes (shape .counts)) k) ⌝ }
 {
-    let mut rat = [0; 21];
+    let mut rows_at = [0; ROW_STARTS];
     let mut next = 0;
-    for k in 0..20 {
+    for k in 0..FAMILY_COUNT {
         next = next + shape.sizes[k];
-        rat[k + 1] = next;
+        rows_at[k + 1] = next;
     }
-    rat
+    rows_at
 }
 
 // The code of a family's index set once more, by match: where the family is a constant, inlining sees through it to the code, and so to the index set.
 // It does not see through a read of the table of families: docs/BENCHMARKS.md has what that costs certify.
 fn set_of(k: usize) -> usize
-    requires { ⌜ k < 20 ⌝ }
+    requires { ⌜ k < familyCount ⌝ }
     ensures { λ r. ⌜ r ≡ familyOf k .set ⌝ }
 {
     match k {
@@ -94,12 +99,12 @@ fn set_of(k: usize) -> usize
 
 // The multiplier of a row: family `k`, counted from 0, year `y`, first index `i`, second index `j` and slice `s`.
 // With the family a constant, inlining leaves a few products and one read.
-pub fn multiplier_at(ms: &[i64], rat: &[usize; 21], c: Counts, k: usize, y: usize, i: usize, j: usize, s: usize) -> Multiplier
-    requires { ⌜ Counted c × (Dualled (now ms) (now rat) c × ((k < 20) × Inside c (familyOf k .set) y i j s)) ⌝ }
+pub fn multiplier_at(ms: &[i64], rows_at: &RowStarts, c: Counts, k: usize, y: usize, i: usize, j: usize, s: usize) -> Multiplier
+    requires { ⌜ Counted c × (RowsAt (now ms) (now «rows_at») c × ((k < familyCount) × Inside c (familyOf k .set) y i j s)) ⌝ }
     ensures { λ r. ⌜ r ≡ multiplierOf (getD (now (ms .entry)) (number (rowBoxes c) (index k y i j s)) (pos 0)) ⌝ }
 {
     let o = inside_of(c, set_of(k), y, i, j, s);
-    multiplier_in(ms, rat[k] + o)
+    multiplier_in(ms, rows_at[k] + o)
 }
 
 // The largest size below zero: 2^40 in an equality, 0 elsewhere.
@@ -129,7 +134,7 @@ fn test_ranges(ms: &[i64], shape: Shape) -> Outcome
 {
     let mut row = 0;
     let mut answer = Outcome::Fine;
-    'walk: for k in 0..20 {
+    'walk: for k in 0..FAMILY_COUNT {
         let f = family_at(k);
         let equal = f.equal;
         for i in 0..shape.sizes[k] {
@@ -149,8 +154,8 @@ pub fn test_multipliers(ms: &[i64], shape: Shape) -> Outcome
     requires { ⌜ Shaped shape ⌝ }
     ensures { λ r. ⌜ ((D : Data) → D .counts ≡ shape .counts → r ≡ outcome (orElse (multiplierCountFault D (now (ms .entry))) (multipliersFault D (now (ms .entry))))) ⌝ }
 {
-    let rat = row_starts(shape);
-    let whole = rat[20];
+    let rows_at = row_starts(shape);
+    let whole = rows_at[FAMILY_COUNT];
     if ms.len() != whole {
         return Outcome::Fails(Refusal::MultiplierCount(whole));
     }

@@ -21,13 +21,13 @@ use Rattle.sums.specs.Index.{Index}
 use Rattle.sums.specs.Linear.{value}
 use Rattle.model.specs.declared.Counts.{Counts}
 use Rattle.model.specs.Counts.{slicesOf, seasonLength, [s], [g], [yzs]}
-use Rattle.model.specs.Data.{Data, G, S, read, zone, fuel, duration, heatRate, emission, peak}
+use Rattle.model.specs.Data.{Data, G, S, read, zone, fuel, duration, heatRate, emission, peak, tableCount}
 use Rattle.model.specs.Columns.{gen}
 use Rattle.model.specs.Families.{seasonSum, available, fuelUse, zoneEmission, systemEmission}
-use Rattle.tables.specs.Layout.{Counted, Laid, Entered, planEntry, tableSets}
+use Rattle.tables.specs.Layout.{Counted, TablesAt, EntryAt, planEntry, tableSets}
 use Rattle.tables.proofs.Laws.{entry-below, entry-is}
 use Rattle.parts.specs.Years.{YearPart}
-use Rattle.energy.specs.Energies.{Energies, energyAt, bothIf, allIf, allOf, yearEnergy}
+use Rattle.energy.specs.Energies.{Energies, energyAt, bothIf, allIf, allOf, yearEnergy, energyCount}
 
 -- Loops
 
@@ -70,14 +70,14 @@ season-is D q f e h = rw (e, h)
 
 -- What the readers ask
 
-pub plant-read : {l at : List ℕ} {c : Counts} {t g : ℕ} → Laid l at c → t < 42 → getD tableSets t 0 ≡ [g] → g < c .plants → Entered l at c t [g] 0 g 0 0
+pub plant-read : {l tables-at : List ℕ} {c : Counts} {t g : ℕ} → TablesAt l tables-at c → t < tableCount → getD tableSets t 0 ≡ [g] → g < c .plants → EntryAt l tables-at c t [g] 0 g 0 0
 plant-read n h e hg =
-    record { laid = n; table = h; set = e; inside = record { year = omega arith; «first» = hg; second = omega arith; slice = omega arith } }
+    record { tablesAt = n; table = h; set = e; inside = record { year = omega arith; «first» = hg; second = omega arith; slice = omega arith } }
 
-pub duration-read : {l at : List ℕ} {c : Counts} {q i : ℕ} → q < c .seasons → i < seasonLength c → Laid l at c → Entered l at c 2 [s] 0 0 0 (q * seasonLength c + i)
+pub duration-read : {l tables-at : List ℕ} {c : Counts} {q i : ℕ} → q < c .seasons → i < seasonLength c → TablesAt l tables-at c → EntryAt l tables-at c 2 [s] 0 0 0 (q * seasonLength c + i)
 duration-read hq hi n =
     record {
-      laid = n;
+      tablesAt = n;
       table = omega arith;
       set = refl;
       inside = record { year = omega arith; «first» = omega arith; second = omega arith; slice = slice-below (n .counted) hq hi };
@@ -102,15 +102,15 @@ part-season D {c} {plan} {part} {y = y} {g} {q} few e p hg hq ek er =
 
 -- every year, plant and season whose number is below `place` has its value
 pub record Filled (F : ℕ → ℕ → ℕ → Sum) (G Q : ℕ) (energy : List (List ℕ)) (place : ℕ) : Type 0 where
-  pub long : length energy ≡ 1280
+  pub long : length energy ≡ energyCount
   pub is : (y g q : ℕ) → g < G → q < Q → (y * G + g) * Q + q < place → keptSum (getD energy ((y * G + g) * Q + q) []) ≡ F y g q
 
 module _ {F : ℕ → ℕ → ℕ → Sum} {G Q : ℕ} where
-  pub fill-none : {energy : List (List ℕ)} → length energy ≡ 1280 → Filled F G Q energy 0
+  pub fill-none : {energy : List (List ℕ)} → length energy ≡ energyCount → Filled F G Q energy 0
   fill-none e = record { long = e; is = λ y g q hg hq h. absurd (omega arith) }
 
   -- a number below place + 1 is below it, or it is place: then year, plant and season are those of the place
-  pub fill-one : {energy : List (List ℕ)} {place : ℕ} (v : List ℕ) (y g q : ℕ) → g < G → q < Q → place ≡ (y * G + g) * Q + q → place < 1280 → keptSum v ≡ F y g q
+  pub fill-one : {energy : List (List ℕ)} {place : ℕ} (v : List ℕ) (y g q : ℕ) → g < G → q < Q → place ≡ (y * G + g) * Q + q → place < energyCount → keptSum v ≡ F y g q
       → Filled F G Q energy place → Filled F G Q (set energy place v) (place + 1)
   fill-one {energy} {place} v y g q hg hq e h w n = record { long = length-set energy place v ∙ n .long; is = go }
     where
@@ -156,13 +156,13 @@ peak-halves h l e p q =
 
 -- The part of the Demand table that is read for one year and zone
 
-module _ {l at : List ℕ} {c : Counts} {y z : ℕ} (n : Laid l at c) (hy : y < c .years) (hz : z < c .zones) where
+module _ {l tables-at : List ℕ} {c : Counts} {y z : ℕ} (n : TablesAt l tables-at c) (hy : y < c .years) (hz : z < c .zones) where
   abbrev demandFrom : ℕ
-  demandFrom = getD at 25 0 + (y * c .zones + z) * slicesOf c
+  demandFrom = getD tables-at 25 0 + (y * c .zones + z) * slicesOf c
 
-  demand-read : (s : ℕ) → s < slicesOf c → Entered l at c 25 [yzs] y z 0 s
+  demand-read : (s : ℕ) → s < slicesOf c → EntryAt l tables-at c 25 [yzs] y z 0 s
   demand-read s h =
-      record { laid = n; table = omega arith; set = refl; inside = record { year = hy; «first» = hz; second = omega arith; slice = h } }
+      record { tablesAt = n; table = omega arith; set = refl; inside = record { year = hy; «first» = hz; second = omega arith; slice = h } }
 
   demand-below : demandFrom + slicesOf c ≤ length l
   demand-below =
@@ -180,11 +180,11 @@ module _ {l at : List ℕ} {c : Counts} {y z : ℕ} (n : Laid l at c) (hy : y < 
 
   -- the same with the number of slices in a local, as the code has it
   module _ {m : ℕ} (e : m ≡ slicesOf c) where
-    pub part-below : (y * c .zones + z ≤ 79) × (getD at 25 0 + (y * c .zones + z) * m + m ≤ length l)
+    pub part-below : (y * c .zones + z ≤ 79) × (getD tables-at 25 0 + (y * c .zones + z) * m + m ≤ length l)
     part-below =
         (omega (arith, below-product (c .years) (c .zones) hy hz, mul-le-mul (n .counted .fewYears) (n .counted .fewZones)), rw e demand-below)
 
-    pub part-peak : {r : ℕ} → (let from = getD at 25 0 + (y * c .zones + z) * m in r ≡ highest (take (from + m - from) (drop from l))) → r ≡ peak (read l) y z
+    pub part-peak : {r : ℕ} → (let from = getD tables-at 25 0 + (y * c .zones + z) * m in r ≡ highest (take (from + m - from) (drop from l))) → r ≡ peak (read l) y z
     part-peak h = h ∙ rw (add-sub-cancel-left, e) demand-peak
 
 -- Sums that are `cap` of exact numbers

@@ -16,9 +16,13 @@ use Rattle.model.specs.Families.{seasonSum}
 abbrev pub energyAt : Counts → List (List ℕ) → ℕ → ℕ → ℕ → Sum
 energyAt c energy y g q = keptSum (getD energy ((y * c .plants + g) * c .seasons + q) [])
 
+-- how many a list of them holds: 10 years, 32 plants and 4 seasons, the most of each
+abbrev pub energyCount : ℕ
+energyCount = 1280
+
 -- it is Σ Dur·gen
 pub record Energies (D : Data) (x : Index → ℕ) (energy : List (List ℕ)) (c : Counts) : Type 0 where
-  pub long : length energy ≡ 1280
+  pub long : length energy ≡ energyCount
   pub is : (y g q : ℕ) → y < c .years → g < c .plants → q < c .seasons
       → energyAt c energy y g q ≡ cap (seasonSum D q (λ s. duration D s * x (gen y g s)))
 

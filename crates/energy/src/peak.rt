@@ -2,12 +2,13 @@
 use model::Counts;
 use tables::names::DEMAND;
 use tables::sets::slices_of;
+use tables::starts::Starts;
 ghost use mathlib.Core.Path.{_≡_};
 ghost use Prim.Native.Nat.{_≤_, _<_, max};
 ghost use lib.ListN.{length, getD};
 ghost use Rattle.sums.specs.Sum.{largest};
 ghost use Rattle.model.specs.Data.{read, peak, most32};
-ghost use Rattle.tables.specs.Layout.{Laid};
+ghost use Rattle.tables.specs.Layout.{TablesAt};
 
 // The peak of a span is the larger of its halves' peaks, and a single slice's is its Demand.
 fn peak_of(demand: &[u32]) -> u32
@@ -32,12 +33,12 @@ fn larger(a: u32, b: u32) -> u32
 }
 
 // The largest Demand[y,z,·].
-pub fn zone_peak(data: &[u32], at: &[usize; 43], c: Counts, y: usize, z: usize) -> u64
-    requires { ⌜ Laid (now «data») (now at) c × ((y < c .years) × (z < c .zones)) ⌝ }
+pub fn zone_peak(data: &[u32], tables_at: &Starts, c: Counts, y: usize, z: usize) -> u64
+    requires { ⌜ TablesAt (now «data») (now «tables_at») c × ((y < c .years) × (z < c .zones)) ⌝ }
     ensures { λ r. ⌜ (r ≡ peak (read (now («data» .entry))) y z) × (r ≤ most32) ⌝ }
 {
     let n = slices_of(c);
-    let from = at[DEMAND] + (y * c.zones + z) * n;
+    let from = tables_at[DEMAND] + (y * c.zones + z) * n;
     let to = from + n;
     widened(peak_of(&data[from..to]))
 }

@@ -23,7 +23,7 @@ use Rattle.model.specs.declared.Outcome.the-variants.{Fine, Fails}
 use Rattle.model.specs.declared.Refusal.{Refusal}
 use Rattle.model.specs.declared.Refusal.the-variants.{Scale, PlanLength, CostOffScale}
 use Rattle.model.specs.Data.{Data, read}
-use Rattle.model.specs.Columns.{columnBoxes, entries}
+use Rattle.model.specs.Columns.{columnBoxes, entries, kindCount}
 use Rattle.model.specs.Prices.{cost}
 use Rattle.model.specs.Tests.{unless, dataFault, scaleFault, planLengthFault, rowsFault, costFault, planFault, boardFault, multiplierCountFault, multipliersFault, columnsFault, gapFault, dualFault, gap}
 use Rattle.model.specs.Calls.{answer, certificate, answerCode, certificateCode, checkFault, costOf, check, certifyFault, gapOf, certify, postFault, post, posted, boardAfter, replaced, yearOutputs}
@@ -33,17 +33,17 @@ use Rattle.model.specs.declared.Counts.{Counts}
 use Rattle.model.specs.declared.Shape.{Shape}
 use Rattle.model.specs.Data.{countsOf}
 use Rattle.model.specs.Columns.{columnSets, columnNumber, gen}
-use Rattle.model.specs.Families.{shapeOf, rowBoxes}
+use Rattle.model.specs.Families.{shapeOf, rowBoxes, familyCount}
 use Rattle.model.specs.declared.Refusal.the-variants.{Board}
 use Rattle.model.specs.Counts.{slicesOf}
 use Rattle.model.specs.Data.{Y, G, S}
 use Rattle.model.specs.Rival.{Binds}
 use Rattle.model.proofs.Sound.{passed, both}
 use Rattle.model.proofs.Demand.{demand3}
-use Rattle.tables.specs.Layout.{Counted, Planned, startFrom}
+use Rattle.tables.specs.Layout.{Counted, ColumnsAt, startFrom}
 use Rattle.tables.proofs.Laws.{start-at}
 use Rattle.tables.proofs.Passed.{outcome-fine, sound-counts}
-use Rattle.duals.specs.Multipliers.{Shaped, Dualled}
+use Rattle.duals.specs.Multipliers.{Shaped, RowsAt}
 use Rattle.epm.specs.Answers.{planTest, rowsAndCost, after, boardAfterCheck}
 
 -- an answer as the promises have it: document 01's number and values, and the case of the enum with them
@@ -236,21 +236,21 @@ pub shaped : (l : List ℕ) → dataFault l ≡ fine → {c : Counts} {shape : S
 shaped l s e q = record { counted = counts-sound l s (shape-counts q ∙ e); sized = q ∙ ap shapeOf (sym (shape-counts q)) }
 
 -- a multiplier for every row, at the counts that the code holds
-pub dualled : (D : Data) {ms : List ℤ} {rat : List ℕ} {c : Counts} → D .counts ≡ c → length ms ≡ count (rowBoxes (D .counts))
-    → ((k : ℕ) → k ≤ 20 → getD rat k 0 ≡ start (rowBoxes c) k) → Dualled ms rat c
-dualled D e w s = record { whole = w ∙ ap (λ (d : Counts). count (rowBoxes d)) e; starts = s }
+pub rows-from : (D : Data) {ms : List ℤ} {rows-at : List ℕ} {c : Counts} → D .counts ≡ c → length ms ≡ count (rowBoxes (D .counts))
+    → ((k : ℕ) → k ≤ familyCount → getD rows-at k 0 ≡ start (rowBoxes c) k) → RowsAt ms rows-at c
+rows-from D e w s = record { whole = w ∙ ap (λ (d : Counts). count (rowBoxes d)) e; starts = s }
 
-pub columns-end : (l : List ℕ) {c : Counts} {n : ℕ} → c ≡ countsOf l → n ≡ startFrom c columnSets 0 10 → n ≡ count (columnBoxes (read l .counts))
+pub columns-end : (l : List ℕ) {c : Counts} {n : ℕ} → c ≡ countsOf l → n ≡ startFrom c columnSets 0 kindCount → n ≡ count (columnBoxes (read l .counts))
 unfolding columnBoxes
-columns-end l {c} e q = q ∙ start-at c columnSets 0 10 (omega arith) ∙ zero-add _ ∙ ap (λ (d : Counts). count (columnBoxes d)) (sym (counts-read l e))
+columns-end l {c} e q = q ∙ start-at c columnSets 0 kindCount (omega arith) ∙ zero-add _ ∙ ap (λ (d : Counts). count (columnBoxes d)) (sym (counts-read l e))
 
 pub plan-whole : (N places columns : ℕ) {o : Outcome} → o ≡ planTest N places columns → o ≡ Fine → places ≡ columns
 unfolding planTest
 plan-whole N places columns e q = eqb-true places columns (passed _ _ (orElse-fine _ _ (passes e q) .1))
 
-pub plan-laid : {plan cat : List ℕ} {c : Counts} (l : List ℕ) → c ≡ countsOf l → length plan ≡ count (columnBoxes (read l .counts))
-    → ((k : ℕ) → k ≤ 10 → getD cat k 0 ≡ startFrom c columnSets 0 k) → Planned plan cat c
-plan-laid l e w s = record { whole = w ∙ ap (λ (d : Counts). count (columnBoxes d)) (counts-read l e); starts = s }
+pub plan-columns : {plan columns-at : List ℕ} {c : Counts} (l : List ℕ) → c ≡ countsOf l → length plan ≡ count (columnBoxes (read l .counts))
+    → ((k : ℕ) → k ≤ kindCount → getD columns-at k 0 ≡ startFrom c columnSets 0 k) → ColumnsAt plan columns-at c
+plan-columns l e w s = record { whole = w ∙ ap (λ (d : Counts). count (columnBoxes d)) (counts-read l e); starts = s }
 
 pub accepted-parts : (l : List ℕ) (N : ℕ) (plan : List ℕ) {c : ℕ} → check l N plan ≡ Accepted c
     → (dataFault l ≡ fine) × (length plan ≡ count (columnBoxes (read l .counts)))

@@ -7,11 +7,13 @@ use crate::tests::board_fits;
 use crate::tests::test_plan;
 use duals::row_starts;
 use duals::test_multipliers;
+use energy::totals::ENERGY_COUNT;
 use energy::totals::fill_energies;
 use gap::gap_of;
 use model::Answer;
 use model::Certificate;
 use model::Counts;
+use model::KIND_COUNT;
 use model::Outcome;
 use model::Refusal;
 use parts::board::replace;
@@ -22,6 +24,7 @@ use row_tests::test_rows;
 use tables::names::GEN;
 use tables::sets::shape_of;
 use tables::sets::slices_of;
+use tables::starts::Starts;
 use tables::starts::column_starts;
 use tables::starts::table_starts;
 use tables::tests::counts_of;
@@ -38,21 +41,21 @@ ghost use Rattle.model.specs.Columns.{columnBoxes};
 ghost use Rattle.model.specs.Tests.{dataFault, dualFault, gap, boardFault};
 ghost use Rattle.model.specs.Calls.{check as checkSpec, certify as certifySpec, post as postSpec, posted, answer, certificate, answerCode, certificateCode, boardAfter, replaced, yearOutputs};
 ghost use Rattle.model.specs.Rival.{Binds};
-ghost use Rattle.tables.specs.Layout.{Laid, Planned, planEntry};
+ghost use Rattle.tables.specs.Layout.{TablesAt, ColumnsAt, planEntry};
 ghost use Rattle.epm.specs.Answers.{rowsAndCost, after, boardAfterCheck};
 
 // Refusals 6, 7 and 8, and the cost.
-fn price(data: &[u32], scale: u32, plan: &[u32], at: &[usize; 43], cat: &[usize; 43], c: Counts) -> Answer
-    requires { ⌜ Laid (now «data») (now at) c × ((dataFault (now «data») ≡ fine) × Planned (now plan) (now cat) c) ⌝ }
+fn price(data: &[u32], scale: u32, plan: &[u32], tables_at: &Starts, columns_at: &Starts, c: Counts) -> Answer
+    requires { ⌜ TablesAt (now «data») (now «tables_at») c × ((dataFault (now «data») ≡ fine) × ColumnsAt (now plan) (now «columns_at») c) ⌝ }
     ensures { λ r. ⌜ r ≡ rowsAndCost (read (now («data» .entry))) scale (planEntry c (now (plan .entry))) ⌝ }
 {
-    let mut energy = [capped::keep(capped::zero()); 1280];
-    fill_energies(data, plan, at, cat, c, &mut energy);
-    match test_rows(data, plan, &energy, at, cat, c, scale as u64) {
+    let mut energy = [capped::keep(capped::zero()); ENERGY_COUNT];
+    fill_energies(data, plan, tables_at, columns_at, c, &mut energy);
+    match test_rows(data, plan, &energy, tables_at, columns_at, c, scale as u64) {
         Outcome::Fails(r) => return Answer::Refused(r),
         Outcome::Fine => {}
     }
-    match capped::value(cost_of(data, plan, at, cat, c)) {
+    match capped::value(cost_of(data, plan, tables_at, columns_at, c)) {
         Amount::Exactly(cost) => Answer::Accepted(cost),
         Amount::Above => Answer::Refused(Refusal::CostOffScale),
     }
@@ -68,13 +71,13 @@ pub fn check(data: &[u32], scale: u32, plan: &[u32]) -> Answer
         Outcome::Fine => {}
     }
     let c = counts_of(data);
-    let at = table_starts(c);
-    let cat = column_starts(c);
-    match test_plan(scale, plan.len(), cat[10]) {
+    let tables_at = table_starts(c);
+    let columns_at = column_starts(c);
+    match test_plan(scale, plan.len(), columns_at[KIND_COUNT]) {
         Outcome::Fails(r) => return Answer::Refused(r),
         Outcome::Fine => {}
     }
-    price(data, scale, plan, &at, &cat, c)
+    price(data, scale, plan, &tables_at, &columns_at, c)
 }
 
 // Refusals 9 to 13 beside a cost that check answered, or the certificate.
@@ -88,13 +91,13 @@ fn issue(data: &[u32], scale: u32, multipliers: &[i64], cost: u64) -> Certificat
         Outcome::Fine => {}
     }
     let c = shape.counts;
-    let at = table_starts(c);
-    let rat = row_starts(shape);
-    match test_columns(data, multipliers, &at, &rat, c) {
+    let tables_at = table_starts(c);
+    let rows_at = row_starts(shape);
+    match test_columns(data, multipliers, &tables_at, &rows_at, c) {
         Outcome::Fails(r) => return Certificate::Withheld(r), // 11 or 12
         Outcome::Fine => {}
     }
-    gap_of(data, multipliers, &at, &rat, c, scale as u64, cost)
+    gap_of(data, multipliers, &tables_at, &rows_at, c, scale as u64, cost)
 }
 
 // certify: data, N, plan, one multiplier for each row; cost and gap, or the first refusal in document 01's order.
@@ -118,12 +121,12 @@ fn put_year(data: &[u32], plan: &[u32], year: usize, board: &mut [u32], start: u
             (replaced (now (board .entry)) start (yearOutputs (read (now («data» .entry))) (now (plan .entry)) year))) ⌝ }
 {
     let c = counts_of(data);
-    let cat = column_starts(c);
+    let columns_at = column_starts(c);
     let places = c.plants * slices_of(c);
     if !board_fits(c.years, year, board.len(), start, places) {
         return Answer::Refused(Refusal::Board);
     }
-    replace(board, start, year_part(plan, cat[GEN], places, year));
+    replace(board, start, year_part(plan, columns_at[GEN], places, year));
     Answer::Accepted(cost)
 }
 

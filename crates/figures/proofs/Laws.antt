@@ -20,14 +20,14 @@ use Rattle.model.specs.declared.Counts.{Counts}
 use Rattle.model.specs.declared.Refusal.the-variants.{ColumnOffScale, Underpriced}
 use Rattle.model.specs.Counts.{sets}
 use Rattle.model.specs.Data as spec
-use Rattle.model.specs.Data.{Data, tableBoxes, countsOf, placeOf, dataLength, read}
-use Rattle.model.specs.Columns.{columnSets, columnBoxes, columnNumber, entries}
-use Rattle.model.specs.Families.{familyOf, rowBoxes}
+use Rattle.model.specs.Data.{Data, tableBoxes, countsOf, placeOf, dataLength, read, tableCount}
+use Rattle.model.specs.Columns.{columnSets, columnBoxes, columnNumber, entries, kindCount}
+use Rattle.model.specs.Families.{familyOf, rowBoxes, familyCount}
 use Rattle.model.specs.Prices.{price}
 use Rattle.model.specs.Tests.{unless, priced⁺, priced⁻, columnFault}
 use Rattle.model.proofs.Sound.{both}
 use Rattle.tables.specs.declared.ranges.Range.{Range}
-use Rattle.tables.specs.Layout.{Counted, Laid, Inside, tableSets, planEntry}
+use Rattle.tables.specs.Layout.{Counted, TablesAt, Inside, tableSets, planEntry}
 use Rattle.tables.specs.Ranges.{ranged, rangeOf}
 use Rattle.tables.proofs.Laws.{box-at}
 use Rattle.rows.specs.declared.Sides.{Sides}
@@ -45,7 +45,7 @@ use Rattle.figures.specs.Figures.{rowFigures, columnFigures, entryFigure
 -- Members of the index sets
 
 module _ (c : Counts) {k y i j s : ℕ} (m : Member (rowBoxes c) (index k y i j s)) where
-  pub row-inside : (k < 20) × Inside c (familyOf k .set) y i j s
+  pub row-inside : (k < familyCount) × Inside c (familyOf k .set) y i j s
   unfolding rowBoxes
   row-inside =
       let e : boxOf (sets c) (familyOf k .set) ≡ boxOf (rowBoxes c) k = row.box-is c (m .0) refl refl in
@@ -55,7 +55,7 @@ module _ (c : Counts) {k y i j s : ℕ} (m : Member (rowBoxes c) (index k y i j 
   row-year n = row.year-below c (row-inside .0) refl refl n (row-inside .1 .year)
 
 module _ (c : Counts) {k y i j s : ℕ} (m : Member (columnBoxes c) (index k y i j s)) where
-  pub column-inside : (k < 10) × Inside c (getD columnSets k 0) y i j s
+  pub column-inside : (k < kindCount) × Inside c (getD columnSets k 0) y i j s
   unfolding columnBoxes
   column-inside =
       let e : boxOf (sets c) (getD columnSets k 0) ≡ boxOf (columnBoxes c) k = column.box-is c (m .0) refl in
@@ -65,7 +65,7 @@ module _ (c : Counts) {k y i j s : ℕ} (m : Member (columnBoxes c) (index k y i
   column-year = column.year-below c (column-inside .0) refl (column-inside .1 .year)
 
 module _ (c : Counts) {t y i j s : ℕ} (m : Member (tableBoxes c) (index t y i j s)) where
-  pub entry-inside : (t < 42) × Inside c (getD tableSets t 0) y i j s
+  pub entry-inside : (t < tableCount) × Inside c (getD tableSets t 0) y i j s
   unfolding tableBoxes
   entry-inside =
       let e : boxOf (tableBoxes c) t ≡ boxOf (sets c) (getD tableSets t 0) = box-at c tableSets t (m .0) in
@@ -76,7 +76,7 @@ module _ (c : Counts) {t y i j s : ℕ} (m : Member (tableBoxes c) (index t y i 
   entry-below = omega (arith, number-bound (tableBoxes c) (index t y i j s) m)
 
 -- of data that passed refusals 1 and 2, the place is in the list
-pub entry-in : {l at : List ℕ} {c : Counts} {t y i j s place : ℕ} → Laid l at c → Member (tableBoxes (read l .counts)) (index t y i j s)
+pub entry-in : {l tables-at : List ℕ} {c : Counts} {t y i j s place : ℕ} → TablesAt l tables-at c → Member (tableBoxes (read l .counts)) (index t y i j s)
     → placeOf (read l .counts) (index t y i j s) ≡ place → place < length l
 entry-in {l} n m p = omega (arith, entry-below (read l .counts) m, n .whole, ap dataLength (n .counts), p)
 
@@ -91,7 +91,7 @@ pub row-told : (l plan : List ℕ) (N : ℕ) (r : Index) {c : Counts} {s : Sides
 unfolding read sidesOf toldSides rowFigures
 row-told l plan N r e q h = h ∙ rw (q, e)
 
-pub column-told : (D : Data) (ms : List ℤ) (k y i j s : ℕ) {v : Pair} {unit p : Sum} {hours : ℕ} {f : ColumnFigures} → k < 10
+pub column-told : (D : Data) (ms : List ℤ) (k y i j s : ℕ) {v : Pair} {unit p : Sum} {hours : ℕ} {f : ColumnFigures} → k < kindCount
     → v ≡ pricedPair D ms (index k y i j s) → unit ≡ cap (unitPrice D k y i) → hours ≡ hoursOf D k s → p ≡ times unit hours
     → f ≡ toldPair v p → f ≡ columnFigures D ms (index k y i j s)
 unfolding pricedPair toldPair columnFigures

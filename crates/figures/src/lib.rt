@@ -2,11 +2,13 @@
 // Each by the place that `places` finds, for lists that passed the refusals before.
 use capped::Amount;
 use capped::Balance;
-use capped::Kept;
 use capped::Sum;
 use columns::Pair;
 use columns::column_sums;
+use duals::RowStarts;
 use duals::row_starts;
+use energy::totals::ENERGY_COUNT;
+use energy::totals::EnergyTable;
 use energy::totals::fill_energies;
 use model::Counts;
 use parts::years::year_part;
@@ -20,6 +22,7 @@ use tables::names::RESERVE;
 use tables::ranges::range_at;
 use tables::sets::shape_of;
 use tables::sets::slices_of;
+use tables::starts::Starts;
 use tables::starts::column_starts;
 use tables::starts::table_starts;
 use tables::tests::counts_of;
@@ -35,7 +38,7 @@ ghost use Rattle.model.specs.Columns.{columnBoxes, entries};
 ghost use Rattle.model.specs.Families.{rowBoxes};
 ghost use Rattle.model.specs.Prices.{price};
 ghost use Rattle.model.specs.Tests.{headFault, countsFault, lengthFault, entriesFault, dataFault, priced⁺, priced⁻, columnFault};
-ghost use Rattle.tables.specs.Layout.{Laid, Planned, planEntry};
+ghost use Rattle.tables.specs.Layout.{TablesAt, ColumnsAt, planEntry};
 ghost use Rattle.energy.specs.Energies.{Energies};
 ghost use Rattle.rows.specs.Ready.{sidesOf};
 ghost use Rattle.columns.specs.Pairs.{Ready};
@@ -72,15 +75,15 @@ fn told_sides(sides: Sides) -> RowFigures
 }
 
 // The two sums of the row at a place.
-fn sides_at(data: &[u32], plan: &[u32], energy: &[Kept; 1280], at: &[usize; 43], cat: &[usize; 43], c: Counts, scale: u64, p: Place) -> Sides
-    requires { ⌜ (Laid (now «data») (now at) c × ((entriesFault (read (now «data»)) ≡ fine) × (Planned (now plan) (now cat) c × Energies (read (now «data»)) (planEntry c (now plan)) (now energy) c)))
+fn sides_at(data: &[u32], plan: &[u32], energy: &EnergyTable, tables_at: &Starts, columns_at: &Starts, c: Counts, scale: u64, p: Place) -> Sides
+    requires { ⌜ (TablesAt (now «data») (now «tables_at») c × ((entriesFault (read (now «data»)) ≡ fine) × (ColumnsAt (now plan) (now «columns_at») c × Energies (read (now «data»)) (planEntry c (now plan)) (now energy) c)))
         × Member (rowBoxes c) (indexOf p) ⌝ }
     ensures { λ r. ⌜ r ≡ sidesOf (read (now («data» .entry))) scale (planEntry c (now (plan .entry))) (indexOf p) ⌝ }
 {
     let places = c.plants * slices_of(c);
-    let outputs = year_part(plan, cat[GEN], places, p.year);
-    let reserves = year_part(plan, cat[RESERVE], places, p.year);
-    row_sides(data, plan, outputs, reserves, energy, at, cat, c, scale, p.kind, p.year, p.first, p.second, p.slice)
+    let outputs = year_part(plan, columns_at[GEN], places, p.year);
+    let reserves = year_part(plan, columns_at[RESERVE], places, p.year);
+    row_sides(data, plan, outputs, reserves, energy, tables_at, columns_at, c, scale, p.kind, p.year, p.first, p.second, p.slice)
 }
 
 // A row of data and plan that passed refusals 1 to 5.
@@ -89,11 +92,11 @@ pub fn row_figures(data: &[u32], scale: u32, plan: &[u32], p: Place) -> RowFigur
     ensures { λ r. ⌜ r ≡ rowFigures (read (now («data» .entry))) scale (entries (read (now («data» .entry))) (now (plan .entry))) (indexOf p) ⌝ }
 {
     let c = counts_of(data);
-    let at = table_starts(c);
-    let cat = column_starts(c);
-    let mut energy = [capped::keep(capped::zero()); 1280];
-    fill_energies(data, plan, &at, &cat, c, &mut energy);
-    told_sides(sides_at(data, plan, &energy, &at, &cat, c, scale as u64, p))
+    let tables_at = table_starts(c);
+    let columns_at = column_starts(c);
+    let mut energy = [capped::keep(capped::zero()); ENERGY_COUNT];
+    fill_energies(data, plan, &tables_at, &columns_at, c, &mut energy);
+    told_sides(sides_at(data, plan, &energy, &tables_at, &columns_at, c, scale as u64, p))
 }
 
 fn told_pair(sums: Pair, charged: Sum) -> ColumnFigures
@@ -110,13 +113,13 @@ fn told_pair(sums: Pair, charged: Sum) -> ColumnFigures
 }
 
 // The sums and the price of the column at a place.
-fn priced_at(data: &[u32], ms: &[i64], at: &[usize; 43], rat: &[usize; 21], c: Counts, p: Place) -> ColumnFigures
-    requires { ⌜ Ready (now «data») (now at) (now ms) (now rat) c × Member (columnBoxes c) (indexOf p) ⌝ }
+fn priced_at(data: &[u32], ms: &[i64], tables_at: &Starts, rows_at: &RowStarts, c: Counts, p: Place) -> ColumnFigures
+    requires { ⌜ Ready (now «data») (now «tables_at») (now ms) (now «rows_at») c × Member (columnBoxes c) (indexOf p) ⌝ }
     ensures { λ r. ⌜ r ≡ columnFigures (read (now («data» .entry))) (now (ms .entry)) (indexOf p) ⌝ }
 {
-    let sums = column_sums(data, ms, at, rat, c, p.kind, p.year, p.first, p.second, p.slice);
-    let unit = unit_price(data, at, c, p.kind, p.year, p.first);
-    let hours = hours_of(data, at, c, p.kind, p.slice);
+    let sums = column_sums(data, ms, tables_at, rows_at, c, p.kind, p.year, p.first, p.second, p.slice);
+    let unit = unit_price(data, tables_at, c, p.kind, p.year, p.first);
+    let hours = hours_of(data, tables_at, c, p.kind, p.slice);
     told_pair(sums, capped::scale(unit, hours))
 }
 
@@ -130,9 +133,9 @@ pub fn column_figures(data: &[u32], multipliers: &[i64], p: Place) -> ColumnFigu
 {
     let shape = shape_of(counts_of(data));
     let c = shape.counts;
-    let at = table_starts(c);
-    let rat = row_starts(shape);
-    priced_at(data, multipliers, &at, &rat, c, p)
+    let tables_at = table_starts(c);
+    let rows_at = row_starts(shape);
+    priced_at(data, multipliers, &tables_at, &rows_at, c, p)
 }
 
 fn wide(x: u32) -> u64
@@ -155,7 +158,7 @@ pub fn entry_figures(data: &[u32], p: Place, place: usize) -> EntryFigures
     ensures { λ r. ⌜ r ≡ entryFigures (read (now («data» .entry))) (indexOf p) ⌝ }
 {
     let c = counts_of(data);
-    let at = table_starts(c);
-    let range = range_at(data, &at, c, p.kind, p.first, p.second);
+    let tables_at = table_starts(c);
+    let range = range_at(data, &tables_at, c, p.kind, p.first, p.second);
     EntryFigures { least: wide(range.least), most: wide(range.most), entry: number_at(data, place) }
 }

@@ -23,7 +23,7 @@ use Rattle.model.specs.declared.Certificate.the-variants.{Issued}
 use Rattle.model.specs.declared.Refusal.the-variants.{GapOffScale}
 use Rattle.model.specs.Counts.{sets}
 use Rattle.model.specs.Data.{Data}
-use Rattle.model.specs.Families.{familyOf, rowBoxes}
+use Rattle.model.specs.Families.{familyOf, rowBoxes, familyCount}
 use Rattle.model.specs.Tests.{constant⁺, constant⁻, multiplier, m⁺, m⁻, constants⁺, constants⁻, unless, gapFault, gap}
 use Rattle.model.specs.Calls.{certificate}
 use Rattle.tables.specs.Layout.{Inside}
@@ -43,7 +43,7 @@ pub term-is : (D : Data) (ms : List ℤ) {c : Counts} (t : BySign) (r : Index) �
 unfolding withRow withTerm term⁺ term⁻ multiplierOf multiplier constantOf constant⁺ constant⁻
 term-is D ms t r e = rw (← e)
 
-module _ (D : Data) (ms : List ℤ) {k : ℕ} (l : k < 20) (h : hasConstant k ≡ false) (y i j s : ℕ) where
+module _ (D : Data) (ms : List ℤ) {k : ℕ} (l : k < familyCount) (h : hasConstant k ≡ false) (y i j s : ℕ) where
   abbrev none : (f : Constant → ℕ) → f (record { adds = 0; takes = 0 }) ≡ f (constantOf D (index k y i j s))
   none f = ap f (without D y i j s k l h)
 
@@ -87,7 +87,7 @@ module _ (c : Counts) (k : ℕ) {b : Box} (e : b ≡ walkedBox c k) where
       go false h = no-family T (boxOf (rowBoxes c) k) k (z h) ∙ rw (e, h)
 
   -- a row that is walked is one of its family
-  pub walked-inside : {y i j s : ℕ} → k < 20 → y < b .years → i < b .firsts → j < b .seconds → s < b .slices → Inside c (familyOf k .set) y i j s
+  pub walked-inside : {y i j s : ℕ} → k < familyCount → y < b .years → i < b .firsts → j < b .seconds → s < b .slices → Inside c (familyOf k .set) y i j s
   unfolding walkedBox
   walked-inside {y} {i} {j} {s} l hy hi hj hs = go (hasConstant k) refl
     where
@@ -129,12 +129,12 @@ module _ {f g : ℕ → ℕ} {n k : ℕ} {from t : BySign} (h : Adding f g n fro
 
 -- the terms of all rows
 pub all-terms : (D : Data) (ms : List ℤ) {c : Counts} {from t : BySign} {k : ℕ} → D .counts ≡ c → from ≡ capped 0 0
-    → Adding (λ k. ofFamily (term⁺ D ms) (boxOf (rowBoxes c) k) k) (λ k. ofFamily (term⁻ D ms) (boxOf (rowBoxes c) k) k) 20 from k t → 20 ≤ k
+    → Adding (λ k. ofFamily (term⁺ D ms) (boxOf (rowBoxes c) k) k) (λ k. ofFamily (term⁻ D ms) (boxOf (rowBoxes c) k) k) familyCount from k t → familyCount ≤ k
     → t ≡ termsOf D ms
 unfolding termsOf constants⁺ constants⁻ term⁺ term⁻ rowBoxes
 all-terms D ms e z h l =
     all h l 0 0 z ∙ same (zero-add _) (zero-add _)
-    ∙ ap (λ (c : Counts). capped (sum 20 (λ k. ofFamily (term⁺ D ms) (boxOf (rowBoxes c) k) k)) (sum 20 (λ k. ofFamily (term⁻ D ms) (boxOf (rowBoxes c) k) k))) (sym e)
+    ∙ ap (λ (c : Counts). capped (sum familyCount (λ k. ofFamily (term⁺ D ms) (boxOf (rowBoxes c) k) k)) (sum familyCount (λ k. ofFamily (term⁻ D ms) (boxOf (rowBoxes c) k) k))) (sym e)
 
 -- The answer
 

@@ -6,24 +6,27 @@ use constants::families::constant_at;
 use constants::families::has_constant;
 use constants::netted;
 use duals::Multiplier;
+use duals::RowStarts;
 use duals::multiplier_at;
 use model::Certificate;
 use model::Counts;
+use model::FAMILY_COUNT;
 use model::Refusal;
 use sums::Box;
 use tables::sets::box_of;
 use tables::sets::family_at;
+use tables::starts::Starts;
 ghost use mathlib.Core.Path.{_≡_};
 ghost use Prim.Native.Nat.{_≤_, _<_};
 ghost use Rattle.capped.specs.Cap.{limit, cap, netOf};
 ghost use Rattle.sums.specs.Span.{fine};
 ghost use Rattle.sums.specs.Index.{index};
 ghost use Rattle.model.specs.Data.{read};
-ghost use Rattle.model.specs.Families.{familyOf};
+ghost use Rattle.model.specs.Families.{familyOf, familyCount};
 ghost use Rattle.model.specs.Tests.{entriesFault, gapFault, gap};
 ghost use Rattle.model.specs.Calls.{certificate};
-ghost use Rattle.tables.specs.Layout.{Counted, Laid, Inside};
-ghost use Rattle.duals.specs.Multipliers.{Dualled};
+ghost use Rattle.tables.specs.Layout.{Counted, TablesAt, Inside};
+ghost use Rattle.duals.specs.Multipliers.{RowsAt};
 ghost use Rattle.gap.specs.Signs.{withRow, withTerm, walkedBox, termsOf, settled};
 
 // The terms m·k of rows: those above zero and those below, summed apart.
@@ -47,19 +50,19 @@ fn with_row(t: BySign, m: Multiplier, k: Constant) -> BySign
 
 // The term of row y, i, j, s of family k, counted from 0, added.
 fn add_row(
-    data: &[u32], ms: &[i64], at: &[usize; 43], rat: &[usize; 21], c: Counts, k: usize, y: usize, i: usize, j: usize, s: usize,
+    data: &[u32], ms: &[i64], tables_at: &Starts, rows_at: &RowStarts, c: Counts, k: usize, y: usize, i: usize, j: usize, s: usize,
     t: BySign,
 ) -> BySign
-    requires { ⌜ Laid (now «data») (now at) c × ((entriesFault (read (now «data»)) ≡ fine) × (Dualled (now ms) (now rat) c × ((k < 20) × Inside c (familyOf k .set) y i j s))) ⌝ }
+    requires { ⌜ TablesAt (now «data») (now «tables_at») c × ((entriesFault (read (now «data»)) ≡ fine) × (RowsAt (now ms) (now «rows_at») c × ((k < familyCount) × Inside c (familyOf k .set) y i j s))) ⌝ }
     ensures { λ r. ⌜ r ≡ withTerm (read (now («data» .entry))) (now (ms .entry)) t (index k y i j s) ⌝ }
 {
-    let m = multiplier_at(ms, rat, c, k, y, i, j, s);
-    with_row(t, m, constant_at(data, at, c, k, y, i, j, s))
+    let m = multiplier_at(ms, rows_at, c, k, y, i, j, s);
+    with_row(t, m, constant_at(data, tables_at, c, k, y, i, j, s))
 }
 
 // The index set of a family; of one whose rows have no constant nothing is walked.
 fn walked_box(c: Counts, k: usize) -> Box
-    requires { ⌜ Counted c × (k < 20) ⌝ }
+    requires { ⌜ Counted c × (k < familyCount) ⌝ }
     ensures { λ r. ⌜ r ≡ walkedBox c k ⌝ }
 {
     if has_constant(k) {
@@ -70,21 +73,21 @@ fn walked_box(c: Counts, k: usize) -> Box
 }
 
 // The terms m·k of all rows.
-pub fn constant_terms(data: &[u32], ms: &[i64], at: &[usize; 43], rat: &[usize; 21], c: Counts) -> BySign
-    requires { ⌜ Laid (now «data») (now at) c × ((entriesFault (read (now «data»)) ≡ fine) × Dualled (now ms) (now rat) c) ⌝ }
+pub fn constant_terms(data: &[u32], ms: &[i64], tables_at: &Starts, rows_at: &RowStarts, c: Counts) -> BySign
+    requires { ⌜ TablesAt (now «data») (now «tables_at») c × ((entriesFault (read (now «data»)) ≡ fine) × RowsAt (now ms) (now «rows_at») c) ⌝ }
     ensures { λ r. ⌜ r ≡ termsOf (read (now («data» .entry))) (now (ms .entry)) ⌝ }
 {
     let mut t = BySign {
         up: capped::zero(),
         down: capped::zero(),
     };
-    for k in 0..20 {
+    for k in 0..FAMILY_COUNT {
         let b = walked_box(c, k);
         for y in 0..b.years {
             for i in 0..b.firsts {
                 for j in 0..b.seconds {
                     for s in 0..b.slices {
-                        t = add_row(data, ms, at, rat, c, k, y, i, j, s, t);
+                        t = add_row(data, ms, tables_at, rows_at, c, k, y, i, j, s, t);
                     }
                 }
             }
@@ -107,11 +110,11 @@ fn certificate_of(cost: u64, up: Sum, down: Sum) -> Certificate
 }
 
 // The gap beside a cost that passed refusal 8, or refusal 13. The cost is in neither sum.
-pub fn gap_of(data: &[u32], ms: &[i64], at: &[usize; 43], rat: &[usize; 21], c: Counts, scale: u64, cost: u64) -> Certificate
-    requires { ⌜ Laid (now «data») (now at) c × ((entriesFault (read (now «data»)) ≡ fine) × (Dualled (now ms) (now rat) c × (cost ≤ limit))) ⌝ }
+pub fn gap_of(data: &[u32], ms: &[i64], tables_at: &Starts, rows_at: &RowStarts, c: Counts, scale: u64, cost: u64) -> Certificate
+    requires { ⌜ TablesAt (now «data») (now «tables_at») c × ((entriesFault (read (now «data»)) ≡ fine) × (RowsAt (now ms) (now «rows_at») c × (cost ≤ limit))) ⌝ }
     ensures { λ r. ⌜ r ≡ certificate (gapFault (read (now («data» .entry))) (now (ms .entry)) scale) cost (gap (read (now («data» .entry))) (now (ms .entry)) scale cost) ⌝ }
 {
-    let t = constant_terms(data, ms, at, rat, c);
+    let t = constant_terms(data, ms, tables_at, rows_at, c);
     let up = t.up;
     let down = t.down;
     certificate_of(cost, capped::scale(up, scale), capped::scale(down, scale))

@@ -1,4 +1,5 @@
 pub mod Station
+pub mod Lengths
 pub mod Members
 pub mod Within
 pub mod Printed

@@ -12,6 +12,10 @@ use Rattle.model.specs.Data.{Data}
 abbrev pub columnSets : List ℕ
 columnSets = [yg] ∷ [yg] ∷ [yg] ∷ [ygs] ∷ [ygs] ∷ [yzzs] ∷ [yzs] ∷ [yzs] ∷ [yzs] ∷ [yz] ∷ []
 
+-- how many kinds of column there are
+abbrev pub kindCount : ℕ
+kindCount = 10
+
 -- each table's columns by name
 abbrev pub cap : ℕ → ℕ → Index
 cap y g = index 0 y g 0 0

@@ -220,6 +220,10 @@ tables =
     ∷ all [one] (0 to most32)                                               -- 41 MaxCapital, thousands of money units
     ∷ []
 
+-- how many tables there are
+abbrev pub tableCount : ℕ
+tableCount = 42
+
 unfoldable pub tableBoxes : Counts → List Box
 tableBoxes c = map (λ t. boxOf (sets c) (t .set)) tables
 

@@ -1,4 +1,4 @@
--- The twenty families of rows: the fixed table, and each family's equation.
+-- The families of rows: the fixed table, and each family's equation.
 -- "L ≤ R" is read as R − L ≥ 0, the others as L − R; positive and negative terms stand apart.
 use mathlib.Core.Bool.{Bool, true, false, not, _&&_, _||_}
 use mathlib.Core.List.{List, [], _∷_, map}
@@ -44,13 +44,17 @@ families =
     ∷ family 68 [y] false         -- 20
     ∷ []
 
+-- how many families there are
+abbrev pub familyCount : ℕ
+familyCount = 20
+
 unfoldable pub familyOf : ℕ → Family
 familyOf k = getD families k (family 0 0 false)
 
 unfoldable pub rowBoxes : Counts → List Box
 rowBoxes c = map (λ f. boxOf (sets c) (f .set)) families
 
--- the counts and the twenty family sizes that follow from them, in one record
+-- the counts and the family sizes that follow from them, in one record
 unfoldable pub shapeOf : Counts → Shape
 shapeOf c = record { counts = c; sizes = map (λ (b : Box). volume b) (rowBoxes c) }
 

@@ -8,8 +8,8 @@ use lib.ListN.{length, getD, take, drop, length-drop}
 use lib.Seq.{getD-take, getD-drop, length-take-le}
 use Rattle.model.specs.declared.Counts.{Counts}
 use Rattle.model.specs.Counts.{slicesOf, [ygs]}
-use Rattle.model.specs.Columns.{columnSets}
-use Rattle.tables.specs.Layout.{Counted, Planned, Column, planEntry}
+use Rattle.model.specs.Columns.{columnSets, kindCount}
+use Rattle.tables.specs.Layout.{Counted, ColumnsAt, ColumnAt, planEntry}
 use Rattle.tables.proofs.Laws.{column-below, column-is}
 use Rattle.parts.specs.Years.{YearPart}
 use Rattle.parts.proofs.Laws.{part-below, few-places}
@@ -17,14 +17,14 @@ use Rattle.parts.proofs.Laws.{part-below, few-places}
 pub places-are : (c : Counts) {n : ℕ} → n ≡ slicesOf c → c .plants * n ≡ c .plants * slicesOf c
 places-are c e = ap (λ (n : ℕ). c .plants * n) e
 
-module _ {plan cat : List ℕ} {c : Counts} {y places : ℕ} (few : Counted c) (p : Planned plan cat c) (hy : y < c .years) (q : places ≡ c .plants * slicesOf c)
-    (t : ℕ) (ht : t < 10) (e : getD columnSets t 0 ≡ [ygs]) where
-  column : (g s : ℕ) → g < c .plants → s < slicesOf c → Column plan cat c t [ygs] y g 0 s
+module _ {plan columns-at : List ℕ} {c : Counts} {y places : ℕ} (few : Counted c) (p : ColumnsAt plan columns-at c) (hy : y < c .years) (q : places ≡ c .plants * slicesOf c)
+    (t : ℕ) (ht : t < kindCount) (e : getD columnSets t 0 ≡ [ygs]) where
+  column : (g s : ℕ) → g < c .plants → s < slicesOf c → ColumnAt plan columns-at c t [ygs] y g 0 s
   column g s hg hs =
-      record { planned = p; counted = few; table = ht; set = e; inside = record { year = hy; «first» = hg; second = omega arith; slice = hs } }
+      record { columnsAt = p; counted = few; table = ht; set = e; inside = record { year = hy; «first» = hg; second = omega arith; slice = hs } }
 
   -- its last entry is in the plan, so its end is
-  part-end : getD cat t 0 + (y + 1) * places ≤ length plan
+  part-end : getD columns-at t 0 + (y + 1) * places ≤ length plan
   part-end =
       let some : 0 < slicesOf c = mul-pos (mul-pos (few .someSeasons) (few .someDays)) (few .someHours) in
       let g = c .plants - 1 in
@@ -34,12 +34,12 @@ module _ {plan cat : List ℕ} {c : Counts} {y places : ℕ} (few : Counted c) (
       let last : suc g ≡ c .plants = omega arith in
       rw q (omega (arith, column-below (column g s hg hs), suc-mul g (slicesOf c), ap (λ (v : ℕ). v * slicesOf c) last))
 
-  pub part-asked : (getD cat t 0 + (y + 1) * places ≤ length plan) × ((places ≤ 12288) × (y < 10))
+  pub part-asked : (getD columns-at t 0 + (y + 1) * places ≤ length plan) × ((places ≤ 12288) × (y < 10))
   part-asked = (part-end, (omega (arith, few-places few), omega (arith, few .fewYears)))
 
-  pub part-is : {part : List ℕ} → part ≡ take places (drop (getD cat t 0 + y * places) plan) → YearPart plan part c t y
+  pub part-is : {part : List ℕ} → part ≡ take places (drop (getD columns-at t 0 + y * places) plan) → YearPart plan part c t y
   part-is h =
-      let from = getD cat t 0 + y * places in
+      let from = getD columns-at t 0 + y * places in
       record {
         long = ap length h ∙ length-take-le places (drop from plan) (omega (arith, length-drop from plan, part-end)) ∙ q;
         is = λ g s hg hs.

@@ -15,9 +15,9 @@ use Rattle.model.specs.declared.Counts.{Counts}
 use Rattle.model.specs.declared.Family.{Family}
 use Rattle.model.specs.declared.Shape.{Shape}
 use Rattle.model.specs.Counts.{sets}
-use Rattle.model.specs.Data.{tableBoxes}
-use Rattle.model.specs.Columns.{columnSets, columnBoxes}
-use Rattle.model.specs.Families.{family, families, familyOf, rowBoxes, shapeOf}
+use Rattle.model.specs.Data.{tableBoxes, tableCount}
+use Rattle.model.specs.Columns.{columnSets, columnBoxes, kindCount}
+use Rattle.model.specs.Families.{family, families, familyOf, rowBoxes, shapeOf, familyCount}
 use Rattle.tables.specs.Layout.{Counted, tableSets, startFrom}
 use Rattle.tables.proofs.Laws.{getD-map-in, box-at, start-at}
 use Rattle.duals.specs.Multipliers.{Shaped}
@@ -97,28 +97,28 @@ module _ {boxes : List Box} {from : ℕ} {at : List ℕ} (s : Starts boxes from 
 -- the starts and the index sets of the rows, of the columns and of the tables, in this form
 
 module _ (c : Counts) (at : List ℕ) where
-  pub row-starts-are : {shape : Shape} → shape ≡ shapeOf c → ((k : ℕ) → k ≤ 20 → getD at k 0 ≡ start (rowBoxes (shape .counts)) k) → Starts (rowBoxes c) 0 at
+  pub row-starts-are : {shape : Shape} → shape ≡ shapeOf c → ((k : ℕ) → k ≤ familyCount → getD at k 0 ≡ start (rowBoxes (shape .counts)) k) → Starts (rowBoxes c) 0 at
   unfolding rowBoxes shapeOf
   row-starts-are e s = record { is = λ k h. s k h ∙ ap (λ (r : Shape). start (rowBoxes (r .counts)) k) e ∙ sym (zero-add _) }
 
-  pub column-starts-are : ((k : ℕ) → k ≤ 10 → getD at k 0 ≡ startFrom c columnSets 0 k) → Starts (columnBoxes c) 0 at
+  pub column-starts-are : ((k : ℕ) → k ≤ kindCount → getD at k 0 ≡ startFrom c columnSets 0 k) → Starts (columnBoxes c) 0 at
   unfolding columnBoxes
   column-starts-are s = record { is = λ k h. s k h ∙ start-at c columnSets 0 k h }
 
-  pub table-starts-are : ((t : ℕ) → t ≤ 42 → getD at t 0 ≡ startFrom c tableSets 7 t) → Starts (tableBoxes c) 7 at
+  pub table-starts-are : ((t : ℕ) → t ≤ tableCount → getD at t 0 ≡ startFrom c tableSets 7 t) → Starts (tableBoxes c) 7 at
   unfolding tableBoxes
   table-starts-are s = record { is = λ t h. s t h ∙ start-at c tableSets 7 t h }
 
 module _ (c : Counts) {b : Box} {k : ℕ} where
-  pub row-box : k < 20 → {f : Family} → f ≡ familyOf k → b ≡ boxOf (sets c) (f .set) → b ≡ boxOf (rowBoxes c) k
+  pub row-box : k < familyCount → {f : Family} → f ≡ familyOf k → b ≡ boxOf (sets c) (f .set) → b ≡ boxOf (rowBoxes c) k
   unfolding familyOf rowBoxes
   row-box h e q = q ∙ rw e (sym (getD-map-in (λ (f : Family). boxOf (sets c) (f .set)) families (family 0 0 false) (box 0 0 0 0) k h))
 
-  pub column-box : k < 10 → b ≡ boxOf (sets c) (getD columnSets k 0) → b ≡ boxOf (columnBoxes c) k
+  pub column-box : k < kindCount → b ≡ boxOf (sets c) (getD columnSets k 0) → b ≡ boxOf (columnBoxes c) k
   unfolding columnBoxes
   column-box h q = q ∙ sym (box-at c columnSets k h)
 
-  pub table-box : k < 42 → b ≡ boxOf (sets c) (getD tableSets k 0) → b ≡ boxOf (tableBoxes c) k
+  pub table-box : k < tableCount → b ≡ boxOf (sets c) (getD tableSets k 0) → b ≡ boxOf (tableBoxes c) k
   unfolding tableBoxes
   table-box h q = q ∙ sym (box-at c tableSets k h)
 

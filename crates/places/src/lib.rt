@@ -1,6 +1,9 @@
 // From the number of a row, a column or a data entry to its kind and indices: the inverse of document 01's numbering.
 use duals::row_starts;
 use model::Counts;
+use model::FAMILY_COUNT;
+use model::KIND_COUNT;
+use model::TABLE_COUNT;
 use sums::Box;
 use tables::sets::box_of;
 use tables::sets::family_at;
@@ -67,7 +70,7 @@ pub fn row_place(c: Counts, row: usize) -> Place
     ensures { λ r. ⌜ Numbered (rowBoxes c) row r ⌝ }
 {
     let starts = row_starts(shape_of(c));
-    let k = kind_of(&starts, 20, row);
+    let k = kind_of(&starts, FAMILY_COUNT, row);
     let f = family_at(k);
     let b = box_of(c, f.set);
     member_at(b, k, row - starts[k])
@@ -79,7 +82,7 @@ pub fn column_place(c: Counts, column: usize) -> Place
     ensures { λ r. ⌜ Numbered (columnBoxes c) column r ⌝ }
 {
     let starts = column_starts(c);
-    let k = kind_of(&starts, 10, column);
+    let k = kind_of(&starts, KIND_COUNT, column);
     let b = column_box(c, k);
     member_at(b, k, column - starts[k])
 }
@@ -90,7 +93,7 @@ pub fn entry_place(c: Counts, place: usize) -> Place
     ensures { λ r. ⌜ Member (tableBoxes c) (indexOf r) × (placeOf c (indexOf r) ≡ place) ⌝ }
 {
     let starts = table_starts(c);
-    let t = kind_of(&starts, 42, place);
+    let t = kind_of(&starts, TABLE_COUNT, place);
     let b = table_box(c, t);
     member_at(b, t, place - starts[t])
 }

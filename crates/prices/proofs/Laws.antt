@@ -19,9 +19,9 @@ use Rattle.sums.proofs.Sums.{sum-cong, sum-add, sum-scale, sum-single, sum-cons
 use Rattle.model.specs.declared.Counts.{Counts}
 use Rattle.model.specs.Counts.{sets, slicesOf}
 use Rattle.model.specs.Data.{Data, duration, genCost, tax, emission}
-use Rattle.model.specs.Columns.{columnSets, columnBoxes}
+use Rattle.model.specs.Columns.{columnSets, columnBoxes, kindCount}
 use Rattle.model.specs.Prices.{price, cost, yearWeight}
-use Rattle.tables.specs.Layout.{Inside, Column, planEntry}
+use Rattle.tables.specs.Layout.{Inside, ColumnAt, planEntry}
 use Rattle.tables.proofs.Laws.{columnPlace, column-below, column-is}
 use Rattle.prices.specs.Costs.{Hourly, Hours, gen, reserve, unmet, surplus, spinshort, setOf, firstsOf, hourPrice, unitPrice, hoursOf, slicesCost, hoursCost, yearCost}
 
@@ -112,7 +112,7 @@ module _ (D : Data) (c : Counts) (x : Index → ℕ) {t : ℕ} (h : Hourly t) (y
 -- A column's price in two factors
 
 -- what the last arm of a `match` on the table knows
-pub rest-hourly : (k : ℕ) → k < 10 → (k ≡ 0 → ⊥) → (k ≡ 1 → ⊥) → (k ≡ 2 → ⊥) → (k ≡ 5 → ⊥) → (k ≡ 9 → ⊥) → Hourly k
+pub rest-hourly : (k : ℕ) → k < kindCount → (k ≡ 0 → ⊥) → (k ≡ 1 → ⊥) → (k ≡ 2 → ⊥) → (k ≡ 5 → ⊥) → (k ≡ 9 → ⊥) → Hourly k
 rest-hourly =
     (λ i l. absurd (omega arith))
     ▹ (λ a b d e f. absurd (a refl))
@@ -150,7 +150,7 @@ module _ (D : Data) (y i j s : ℕ) where
   in-order : (p : ℕ) → p * yearWeight D y * duration D s ≡ yearWeight D y * duration D s * p
   in-order p = simp (mul-comm, mul-left-comm)
 
-  pub price-factors : (k : ℕ) → k < 10 → unitPrice D k y i * hoursOf D k s ≡ price D (index k y i j s)
+  pub price-factors : (k : ℕ) → k < kindCount → unitPrice D k y i * hoursOf D k s ≡ price D (index k y i j s)
   unfolding unitPrice hoursOf hourPrice price
   price-factors =
       (λ i l. absurd (omega arith))
@@ -166,7 +166,7 @@ module _ (D : Data) (y i j s : ℕ) where
       ▹ mul-one _
 
 -- The part of the plan that holds the slices of plant or zone i in year y
-module _ {plan at : List ℕ} {c : Counts} {t y i : ℕ} (m : Hours plan at c t y i) where
+module _ {plan columns-at : List ℕ} {c : Counts} {t y i : ℕ} (m : Hours plan columns-at c t y i) where
   pub slices-inside : {k s : ℕ} → k ≡ setOf t → s < slicesOf c → Inside c k y i 0 s
   slices-inside e l = rw e (record {
     year = rw (hourly-box (m .table) c) (m .year);
@@ -178,28 +178,28 @@ module _ {plan at : List ℕ} {c : Counts} {t y i : ℕ} (m : Hours plan at c t 
   pub some-slices : 0 < slicesOf c
   some-slices = mul-pos (mul-pos (m .counted .someSeasons) (m .counted .someDays)) (m .counted .someHours)
 
-  column : {s : ℕ} → s < slicesOf c → Column plan at c t (setOf t) y i 0 s
-  column l = record { planned = m .planned; counted = m .counted; table = table-below (m .table); set = refl; inside = slices-inside refl l }
+  column : {s : ℕ} → s < slicesOf c → ColumnAt plan columns-at c t (setOf t) y i 0 s
+  column l = record { columnsAt = m .columnsAt; counted = m .counted; table = table-below (m .table); set = refl; inside = slices-inside refl l }
 
   -- the code has the index set's code k, the place o of the first slice inside the table, and the number n of slices in locals
   module _ {k o n : ℕ} (ek : k ≡ setOf t) (eo : o ≡ inside (boxOf (sets c) k) y i 0 0) (en : n ≡ slicesOf c) where
-    place-is : {s : ℕ} (l : s < slicesOf c) → getD at t 0 + o + s ≡ columnPlace (column l)
+    place-is : {s : ℕ} (l : s < slicesOf c) → getD columns-at t 0 + o + s ≡ columnPlace (column l)
     place-is l = rw (eo, ek) (omega arith)
 
-    pub slices-fit : getD at t 0 + o + n ≤ length plan
+    pub slices-fit : getD columns-at t 0 + o + n ≤ length plan
     slices-fit =
         let last : slicesOf c - 1 < slicesOf c = omega (arith, some-slices) in
         omega (arith, en, place-is last, column-below (column last))
 
     abbrev pub slices : List ℕ
-    slices = take n (drop (getD at t 0 + o) plan)
+    slices = take n (drop (getD columns-at t 0 + o) plan)
 
     pub slices-are : (length slices ≡ slicesOf c) × ((s : ℕ) → s < slicesOf c → getD slices s 0 ≡ planEntry c plan (index t y i 0 s))
     slices-are = (
-      omega (arith, length-take n (drop (getD at t 0 + o) plan), length-drop (getD at t 0 + o) plan, slices-fit),
+      omega (arith, length-take n (drop (getD columns-at t 0 + o) plan), length-drop (getD columns-at t 0 + o) plan, slices-fit),
       λ s l.
-          getD-take n (drop (getD at t 0 + o) plan) s 0 (omega arith)
-          ∙ getD-drop (getD at t 0 + o) plan s 0 ∙ ap (λ (p : ℕ). getD plan p 0) (place-is l) ∙ column-is (column l),
+          getD-take n (drop (getD columns-at t 0 + o) plan) s 0 (omega arith)
+          ∙ getD-drop (getD columns-at t 0 + o) plan s 0 ∙ ap (λ (p : ℕ). getD plan p 0) (place-is l) ∙ column-is (column l),
     )
 
 -- The cost by years

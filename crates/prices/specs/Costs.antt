@@ -9,7 +9,7 @@ use Rattle.model.specs.Counts.{sets, slicesOf}
 use Rattle.model.specs.Data.{Data, duration, annuity, fixedOM, candidate, genCost, tax, emission, resCost, voll, surplusPenalty, sresVoLL, resVoLL}
 use Rattle.model.specs.Columns.{columnSets, cap, firmshort}
 use Rattle.model.specs.Prices.{price, yearWeight}
-use Rattle.tables.specs.Layout.{Counted, Planned}
+use Rattle.tables.specs.Layout.{Counted, ColumnsAt}
 
 -- the tables of columns that are priced by the hour: the columns of each are by year, plant or zone, and slice
 pub data Hourly : ℕ → Type 0 where
@@ -27,8 +27,8 @@ abbrev pub firstsOf : Counts → ℕ → ℕ
 firstsOf c t = boxOf (sets c) (setOf t) .firsts
 
 -- the columns of plant or zone i in year y of table t can be read
-pub record Hours (plan at : List ℕ) (c : Counts) (t y i : ℕ) : Type 0 where
-  pub planned : Planned plan at c
+pub record Hours (plan columns-at : List ℕ) (c : Counts) (t y i : ℕ) : Type 0 where
+  pub columnsAt : ColumnsAt plan columns-at c
   pub counted : Counted c
   pub table : Hourly t
   pub year : y < c .years

@@ -7,6 +7,7 @@ use tables::entries::by_slice;
 use tables::entries::single;
 use tables::names::DURATION;
 use tables::names::RES_VOLL;
+use tables::starts::Starts;
 use terms::plants::year_weight;
 ghost use mathlib.Core.Path.{_≡_};
 ghost use Prim.Native.Nat.{_<_};
@@ -14,18 +15,19 @@ ghost use Rattle.capped.specs.Cap.{cap};
 ghost use Rattle.sums.specs.Index.{boxOf};
 ghost use Rattle.model.specs.Counts.{sets};
 ghost use Rattle.model.specs.Data.{read};
-ghost use Rattle.tables.specs.Layout.{Laid};
+ghost use Rattle.model.specs.Columns.{kindCount};
+ghost use Rattle.tables.specs.Layout.{TablesAt};
 ghost use Rattle.prices.specs.Costs.{setOf, firstsOf, unitPrice, hoursOf};
 
 // Of table k, year y, plant or zone i. Build, retire and trans have no price.
-pub fn unit_price(data: &[u32], at: &[usize; 43], c: Counts, k: usize, y: usize, i: usize) -> Sum
-    requires { ⌜ Laid (now «data») (now at) c × ((k < 10) × ((y < c .years) × (i < firstsOf c k))) ⌝ }
+pub fn unit_price(data: &[u32], tables_at: &Starts, c: Counts, k: usize, y: usize, i: usize) -> Sum
+    requires { ⌜ TablesAt (now «data») (now «tables_at») c × ((k < kindCount) × ((y < c .years) × (i < firstsOf c k))) ⌝ }
     ensures { λ r. ⌜ r ≡ cap (unitPrice (read (now («data» .entry))) k y i) ⌝ }
 {
-    let share = year_weight(data, at, c, y);
+    let share = year_weight(data, tables_at, c, y);
     match k {
         // cap
-        0 => capped::product(share, yearly_price(data, at, c, y, i)),
+        0 => capped::product(share, yearly_price(data, tables_at, c, y, i)),
         // build
         1 => capped::zero(),
         // retire
@@ -33,15 +35,15 @@ pub fn unit_price(data: &[u32], at: &[usize; 43], c: Counts, k: usize, y: usize,
         // trans
         5 => capped::zero(),
         // firmshort
-        9 => capped::product(share, single(data, at, c, RES_VOLL)),
+        9 => capped::product(share, single(data, tables_at, c, RES_VOLL)),
         // the tables priced by the hour
-        _ => capped::scale(hour_price(data, at, c, k, y, i), share),
+        _ => capped::scale(hour_price(data, tables_at, c, k, y, i), share),
     }
 }
 
 // The hours of slice s for a table priced by the hour, else 1.
-pub fn hours_of(data: &[u32], at: &[usize; 43], c: Counts, k: usize, s: usize) -> u64
-    requires { ⌜ Laid (now «data») (now at) c × ((k < 10) × (s < boxOf (sets c) (setOf k) .slices)) ⌝ }
+pub fn hours_of(data: &[u32], tables_at: &Starts, c: Counts, k: usize, s: usize) -> u64
+    requires { ⌜ TablesAt (now «data») (now «tables_at») c × ((k < kindCount) × (s < boxOf (sets c) (setOf k) .slices)) ⌝ }
     ensures { λ r. ⌜ r ≡ hoursOf (read (now («data» .entry))) k s ⌝ }
 {
     match k {
@@ -50,6 +52,6 @@ pub fn hours_of(data: &[u32], at: &[usize; 43], c: Counts, k: usize, s: usize) -
         2 => 1,
         5 => 1,
         9 => 1,
-        _ => by_slice(data, at, c, DURATION, s),
+        _ => by_slice(data, tables_at, c, DURATION, s),
     }
 }

@@ -32,6 +32,7 @@ use tables::names::VOLL;
 use tables::sets::box_of;
 use tables::sets::inside_of;
 use tables::sets::slices_of;
+use tables::starts::Starts;
 use terms::plants::year_weight;
 ghost use mathlib.Core.Path.{_≡_};
 ghost use Prim.Native.Nat.{ℕ, _+_, _*_, _≤_, _<_};
@@ -42,80 +43,80 @@ ghost use Rattle.sums.specs.Index.{index};
 ghost use Rattle.model.specs.Counts.{slicesOf};
 ghost use Rattle.model.specs.Data.{read, duration, fixedOM, annuity, candidate, most32};
 ghost use Rattle.model.specs.Prices.{cost};
-ghost use Rattle.tables.specs.Layout.{Counted, Laid, Planned, planEntry};
+ghost use Rattle.tables.specs.Layout.{Counted, TablesAt, ColumnsAt, planEntry};
 ghost use Rattle.prices.specs.Costs.{Hourly, Hours, setOf, firstsOf, hourPrice, capCost, slicesCost, hourlyCost, hoursCost, firmshortCost, yearCost};
 
 // FixedOM, and for a candidate the annuity: mills per MW and year.
-pub fn yearly_price(data: &[u32], at: &[usize; 43], c: Counts, y: usize, g: usize) -> u64
-    requires { ⌜ Laid (now «data») (now at) c × ((y < c .years) × (g < c .plants)) ⌝ }
+pub fn yearly_price(data: &[u32], tables_at: &Starts, c: Counts, y: usize, g: usize) -> u64
+    requires { ⌜ TablesAt (now «data») (now «tables_at») c × ((y < c .years) × (g < c .plants)) ⌝ }
     ensures { λ r. ⌜ r ≡ fixedOM (read (now («data» .entry))) y g + on (candidate (read (now («data» .entry))) g) (annuity (read (now («data» .entry))) y g) ⌝ }
 {
-    let fixed = by_year_plant(data, at, c, FIXED_OM, y, g);
-    if by_plant(data, at, c, KIND, g) == 0 {
+    let fixed = by_year_plant(data, tables_at, c, FIXED_OM, y, g);
+    if by_plant(data, tables_at, c, KIND, g) == 0 {
         return fixed;
     }
-    fixed + by_year_plant(data, at, c, ANNUITY, y, g)
+    fixed + by_year_plant(data, tables_at, c, ANNUITY, y, g)
 }
 
 // Σ price·cap in year y.
-fn cap_cost(data: &[u32], plan: &[u32], at: &[usize; 43], cat: &[usize; 43], c: Counts, y: usize) -> Sum
-    requires { ⌜ Laid (now «data») (now at) c × (Planned (now plan) (now cat) c × (y < c .years)) ⌝ }
+fn cap_cost(data: &[u32], plan: &[u32], tables_at: &Starts, columns_at: &Starts, c: Counts, y: usize) -> Sum
+    requires { ⌜ TablesAt (now «data») (now «tables_at») c × (ColumnsAt (now plan) (now «columns_at») c × (y < c .years)) ⌝ }
     ensures { λ r. ⌜ r ≡ cap (capCost (read (now («data» .entry))) c (planEntry c (now (plan .entry))) y) ⌝ }
 {
-    let share = year_weight(data, at, c, y);
+    let share = year_weight(data, tables_at, c, y);
     let mut total = capped::zero();
     for g in 0..c.plants {
-        let price = yearly_price(data, at, c, y, g);
+        let price = yearly_price(data, tables_at, c, y, g);
         total = capped::add_product3(
             total,
             share,
             price,
-            planned_by_year_plant(plan, cat, c, CAP, y, g),
+            planned_by_year_plant(plan, columns_at, c, CAP, y, g),
         );
     }
     total
 }
 
 // Σ price·firmshort in year y.
-fn firmshort_cost(data: &[u32], plan: &[u32], at: &[usize; 43], cat: &[usize; 43], c: Counts, y: usize) -> Sum
-    requires { ⌜ Laid (now «data») (now at) c × (Planned (now plan) (now cat) c × (y < c .years)) ⌝ }
+fn firmshort_cost(data: &[u32], plan: &[u32], tables_at: &Starts, columns_at: &Starts, c: Counts, y: usize) -> Sum
+    requires { ⌜ TablesAt (now «data») (now «tables_at») c × (ColumnsAt (now plan) (now «columns_at») c × (y < c .years)) ⌝ }
     ensures { λ r. ⌜ r ≡ cap (firmshortCost (read (now («data» .entry))) c (planEntry c (now (plan .entry))) y) ⌝ }
 {
-    let share = year_weight(data, at, c, y);
-    let price = single(data, at, c, RES_VOLL);
+    let share = year_weight(data, tables_at, c, y);
+    let price = single(data, tables_at, c, RES_VOLL);
     let mut total = capped::zero();
     for z in 0..c.zones {
         total = capped::add_product3(
             total,
             share,
             price,
-            planned_by_year_zone(plan, cat, c, FIRMSHORT, y, z),
+            planned_by_year_zone(plan, columns_at, c, FIRMSHORT, y, z),
         );
     }
     total
 }
 
 // The price of an hour without the factor W: of gen by plant and year, of reserve by plant, of the others one figure.
-pub fn hour_price(data: &[u32], at: &[usize; 43], c: Counts, t: usize, y: usize, i: usize) -> Sum
-    requires { ⌜ Laid (now «data») (now at) c × (Hourly t × ((y < c .years) × (i < firstsOf c t))) ⌝ }
+pub fn hour_price(data: &[u32], tables_at: &Starts, c: Counts, t: usize, y: usize, i: usize) -> Sum
+    requires { ⌜ TablesAt (now «data») (now «tables_at») c × (Hourly t × ((y < c .years) × (i < firstsOf c t))) ⌝ }
     ensures { λ r. ⌜ r ≡ cap (hourPrice (read (now («data» .entry))) t y i) ⌝ }
 {
     match t {
         // gen
         3 => {
-            let untaxed = capped::of(by_year_plant(data, at, c, GEN_COST, y, i));
-            let tax = by_year(data, at, c, TAX, y);
-            let emission = by_plant(data, at, c, EMISSION, i);
+            let untaxed = capped::of(by_year_plant(data, tables_at, c, GEN_COST, y, i));
+            let tax = by_year(data, tables_at, c, TAX, y);
+            let emission = by_plant(data, tables_at, c, EMISSION, i);
             capped::add_product(untaxed, tax, emission)
         }
         // reserve
-        4 => capped::of(by_plant(data, at, c, RES_COST, i)),
+        4 => capped::of(by_plant(data, tables_at, c, RES_COST, i)),
         // unmet
-        6 => capped::of(single(data, at, c, VOLL)),
+        6 => capped::of(single(data, tables_at, c, VOLL)),
         // surplus
-        7 => capped::of(single(data, at, c, SURPLUS_PENALTY)),
+        7 => capped::of(single(data, tables_at, c, SURPLUS_PENALTY)),
         // spinshort
-        _ => capped::of(single(data, at, c, SRES_VOLL)),
+        _ => capped::of(single(data, tables_at, c, SRES_VOLL)),
     }
 }
 
@@ -137,13 +138,13 @@ fn firsts_of(c: Counts, t: usize) -> usize
 }
 
 // The slices of plant or zone i in year y: a part of the plan.
-fn slices_at<'a>(plan: &'a [u32], cat: &[usize; 43], c: Counts, t: usize, y: usize, i: usize) -> &'a [u32]
-    requires { ⌜ Hours (now plan) (now cat) c t y i ⌝ }
+fn slices_at<'a>(plan: &'a [u32], columns_at: &Starts, c: Counts, t: usize, y: usize, i: usize) -> &'a [u32]
+    requires { ⌜ Hours (now plan) (now «columns_at») c t y i ⌝ }
     ensures { λ r. ⌜ (length (now r) ≡ slicesOf c) × ((s : ℕ) → s < slicesOf c → getD (now r) s 0 ≡ planEntry c (now (plan .entry)) (index t y i 0 s)) ⌝ }
 {
     let n = slices_of(c);
     let first = inside_of(c, set_of(t), y, i, 0, 0);
-    part_of(plan, cat[t] + first, n)
+    part_of(plan, columns_at[t] + first, n)
 }
 
 // n entries of a list.
@@ -156,13 +157,13 @@ fn part_of(list: &[u32], start: usize, n: usize) -> &[u32]
 }
 
 // Σ Dur·entry over the slices of a part.
-fn weighted_hours(data: &[u32], at: &[usize; 43], c: Counts, part: &[u32]) -> Sum
-    requires { ⌜ Laid (now «data») (now at) c × (length (now part) ≡ slicesOf c) ⌝ }
+fn weighted_hours(data: &[u32], tables_at: &Starts, c: Counts, part: &[u32]) -> Sum
+    requires { ⌜ TablesAt (now «data») (now «tables_at») c × (length (now part) ≡ slicesOf c) ⌝ }
     ensures { λ r. ⌜ r ≡ cap (sum (slicesOf c) (λ s. duration (read (now («data» .entry))) s * getD (now (part .entry)) s 0)) ⌝ }
 {
     let mut total = capped::zero();
     for s in 0..part.len() {
-        total = capped::add_product(total, by_slice(data, at, c, DURATION, s), wide(part[s]));
+        total = capped::add_product(total, by_slice(data, tables_at, c, DURATION, s), wide(part[s]));
     }
     total
 }
@@ -174,62 +175,62 @@ fn wide(x: u32) -> u64
 }
 
 // Σ price·entry over the slices of plant or zone i in year y: the hours are summed first and priced once.
-fn slices_cost(data: &[u32], plan: &[u32], at: &[usize; 43], cat: &[usize; 43], c: Counts, t: usize, y: usize, i: usize) -> Sum
-    requires { ⌜ Laid (now «data») (now at) c × Hours (now plan) (now cat) c t y i ⌝ }
+fn slices_cost(data: &[u32], plan: &[u32], tables_at: &Starts, columns_at: &Starts, c: Counts, t: usize, y: usize, i: usize) -> Sum
+    requires { ⌜ TablesAt (now «data») (now «tables_at») c × Hours (now plan) (now «columns_at») c t y i ⌝ }
     ensures { λ r. ⌜ r ≡ cap (slicesCost (read (now («data» .entry))) c (planEntry c (now (plan .entry))) t y i) ⌝ }
 {
-    let share = year_weight(data, at, c, y);
-    let price = capped::scale(hour_price(data, at, c, t, y, i), share);
-    let hours = weighted_hours(data, at, c, slices_at(plan, cat, c, t, y, i));
+    let share = year_weight(data, tables_at, c, y);
+    let price = capped::scale(hour_price(data, tables_at, c, t, y, i), share);
+    let hours = weighted_hours(data, tables_at, c, slices_at(plan, columns_at, c, t, y, i));
     capped::multiply(price, hours)
 }
 
 // Σ price·entry of a table priced by the hour, in year y.
-fn hourly_cost(data: &[u32], plan: &[u32], at: &[usize; 43], cat: &[usize; 43], c: Counts, t: usize, y: usize) -> Sum
-    requires { ⌜ Laid (now «data») (now at) c × (Planned (now plan) (now cat) c × (Hourly t × (y < c .years))) ⌝ }
+fn hourly_cost(data: &[u32], plan: &[u32], tables_at: &Starts, columns_at: &Starts, c: Counts, t: usize, y: usize) -> Sum
+    requires { ⌜ TablesAt (now «data») (now «tables_at») c × (ColumnsAt (now plan) (now «columns_at») c × (Hourly t × (y < c .years))) ⌝ }
     ensures { λ r. ⌜ r ≡ cap (hourlyCost (read (now («data» .entry))) c (planEntry c (now (plan .entry))) t y) ⌝ }
 {
     let firsts = firsts_of(c, t);
     let mut total = capped::zero();
     for i in 0..firsts {
-        total = capped::join(total, slices_cost(data, plan, at, cat, c, t, y, i));
+        total = capped::join(total, slices_cost(data, plan, tables_at, columns_at, c, t, y, i));
     }
     total
 }
 
 // Σ price·entry of all tables priced by the hour, in year y.
-fn hours_cost(data: &[u32], plan: &[u32], at: &[usize; 43], cat: &[usize; 43], c: Counts, y: usize) -> Sum
-    requires { ⌜ Laid (now «data») (now at) c × (Planned (now plan) (now cat) c × (y < c .years)) ⌝ }
+fn hours_cost(data: &[u32], plan: &[u32], tables_at: &Starts, columns_at: &Starts, c: Counts, y: usize) -> Sum
+    requires { ⌜ TablesAt (now «data») (now «tables_at») c × (ColumnsAt (now plan) (now «columns_at») c × (y < c .years)) ⌝ }
     ensures { λ r. ⌜ r ≡ cap (hoursCost (read (now («data» .entry))) c (planEntry c (now (plan .entry))) y) ⌝ }
 {
-    let output = hourly_cost(data, plan, at, cat, c, GEN, y);
-    let with_reserve = capped::join(output, hourly_cost(data, plan, at, cat, c, RESERVE, y));
-    let with_unmet = capped::join(with_reserve, hourly_cost(data, plan, at, cat, c, UNMET, y));
-    let with_surplus = capped::join(with_unmet, hourly_cost(data, plan, at, cat, c, SURPLUS, y));
+    let output = hourly_cost(data, plan, tables_at, columns_at, c, GEN, y);
+    let with_reserve = capped::join(output, hourly_cost(data, plan, tables_at, columns_at, c, RESERVE, y));
+    let with_unmet = capped::join(with_reserve, hourly_cost(data, plan, tables_at, columns_at, c, UNMET, y));
+    let with_surplus = capped::join(with_unmet, hourly_cost(data, plan, tables_at, columns_at, c, SURPLUS, y));
     capped::join(
         with_surplus,
-        hourly_cost(data, plan, at, cat, c, SPINSHORT, y),
+        hourly_cost(data, plan, tables_at, columns_at, c, SPINSHORT, y),
     )
 }
 
 // Σ price·entry in year y; build, retire and trans have no price.
-fn year_cost(data: &[u32], plan: &[u32], at: &[usize; 43], cat: &[usize; 43], c: Counts, y: usize) -> Sum
-    requires { ⌜ Laid (now «data») (now at) c × (Planned (now plan) (now cat) c × (y < c .years)) ⌝ }
+fn year_cost(data: &[u32], plan: &[u32], tables_at: &Starts, columns_at: &Starts, c: Counts, y: usize) -> Sum
+    requires { ⌜ TablesAt (now «data») (now «tables_at») c × (ColumnsAt (now plan) (now «columns_at») c × (y < c .years)) ⌝ }
     ensures { λ r. ⌜ r ≡ cap (yearCost (read (now («data» .entry))) c (planEntry c (now (plan .entry))) y) ⌝ }
 {
-    let fixed = cap_cost(data, plan, at, cat, c, y);
-    let with_hours = capped::join(fixed, hours_cost(data, plan, at, cat, c, y));
-    capped::join(with_hours, firmshort_cost(data, plan, at, cat, c, y))
+    let fixed = cap_cost(data, plan, tables_at, columns_at, c, y);
+    let with_hours = capped::join(fixed, hours_cost(data, plan, tables_at, columns_at, c, y));
+    capped::join(with_hours, firmshort_cost(data, plan, tables_at, columns_at, c, y))
 }
 
 // Σ price·entry over all columns.
-pub fn cost_of(data: &[u32], plan: &[u32], at: &[usize; 43], cat: &[usize; 43], c: Counts) -> Sum
-    requires { ⌜ Laid (now «data») (now at) c × Planned (now plan) (now cat) c ⌝ }
+pub fn cost_of(data: &[u32], plan: &[u32], tables_at: &Starts, columns_at: &Starts, c: Counts) -> Sum
+    requires { ⌜ TablesAt (now «data») (now «tables_at») c × ColumnsAt (now plan) (now «columns_at») c ⌝ }
     ensures { λ r. ⌜ r ≡ cap (cost (read (now («data» .entry))) (planEntry c (now (plan .entry)))) ⌝ }
 {
     let mut total = capped::zero();
     for y in 0..c.years {
-        let year = year_cost(data, plan, at, cat, c, y);
+        let year = year_cost(data, plan, tables_at, columns_at, c, y);
         total = capped::join(total, year);
     }
     total

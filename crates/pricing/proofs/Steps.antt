@@ -13,17 +13,17 @@ use Rattle.model.specs.declared.Counts.{Counts}
 use Rattle.model.specs.declared.Refusal.{Refusal}
 use Rattle.model.specs.Counts.{sets}
 use Rattle.model.specs.Data.{Data}
-use Rattle.model.specs.Columns.{columnSets, columnBoxes}
+use Rattle.model.specs.Columns.{columnSets, columnBoxes, kindCount}
 use Rattle.model.specs.Tests.{columnFault, columnsFault}
 use Rattle.tables.specs.Layout.{Counted, Inside, outcome}
 use Rattle.tables.proofs.Laws.{box-at}
 
 -- there are ten tables of columns
-pub table-below : (c : Counts) {k : ℕ} → k < 10 → k < length (columnBoxes c)
+pub table-below : (c : Counts) {k : ℕ} → k < kindCount → k < length (columnBoxes c)
 unfolding columnBoxes
 table-below c l = l
 
-pub tables-end : (c : Counts) {k : ℕ} → 10 ≤ k → length (columnBoxes c) ≤ k
+pub tables-end : (c : Counts) {k : ℕ} → kindCount ≤ k → length (columnBoxes c) ≤ k
 unfolding columnBoxes
 tables-end c l = l
 
@@ -31,12 +31,12 @@ pub columns-fit : (c : Counts) {n : ℕ} → n ≤ 983040 * length (columnBoxes 
 unfolding columnBoxes
 columns-fit c l = l
 
-few-years : (c : Counts) (k : ℕ) → k < 10 → boxOf (columnBoxes c) k .years ≤ c .years
+few-years : (c : Counts) (k : ℕ) → k < kindCount → boxOf (columnBoxes c) k .years ≤ c .years
 unfolding columnBoxes
 few-years c k l = at-place (λ k b. b .years ≤ c .years) (columnBoxes c) (box 0 0 0 0) (omega arith) k l
 
 -- the box that the code has
-module _ (c : Counts) {k : ℕ} {b : Box} (l : k < 10) (e : b ≡ boxOf (sets c) (getD columnSets k 0)) where
+module _ (c : Counts) {k : ℕ} {b : Box} (l : k < kindCount) (e : b ≡ boxOf (sets c) (getD columnSets k 0)) where
   pub box-is : b ≡ boxOf (columnBoxes c) k
   unfolding columnBoxes
   box-is = e ∙ sym (box-at c columnSets k l)

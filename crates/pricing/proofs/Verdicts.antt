@@ -19,7 +19,7 @@ use Rattle.model.specs.declared.Outcome.{Outcome}
 use Rattle.model.specs.declared.Outcome.the-variants.{Fails}
 use Rattle.model.specs.declared.Refusal.the-variants.{ColumnOffScale, Underpriced}
 use Rattle.model.specs.Data.{Data}
-use Rattle.model.specs.Columns.{columnNumber}
+use Rattle.model.specs.Columns.{columnNumber, kindCount}
 use Rattle.model.specs.Prices.{price}
 use Rattle.model.specs.Tests.{priced⁺, priced⁻, unless, columnFault}
 use Rattle.tables.specs.Layout.{outcome}
@@ -66,7 +66,7 @@ two-sums u d p column =
     (λ (h : limit < u). rw (over-cap u, lt-ltb limit u h, lt-leb u limit h)) (le-or-lt u limit)
 
 -- a column's verdict is the document's test of it
-pub verdict-is : (D : Data) (ms : List ℤ) (k y i j s : ℕ) {v : Pair} {unit p : Sum} {hours column : ℕ} → k < 10
+pub verdict-is : (D : Data) (ms : List ℤ) (k y i j s : ℕ) {v : Pair} {unit p : Sum} {hours column : ℕ} → k < kindCount
     → v ≡ pricedPair D ms (index k y i j s) → unit ≡ cap (unitPrice D k y i) → hours ≡ hoursOf D k s → p ≡ times unit hours
     → column ≡ columnNumber D (index k y i j s) → verdictOf v p column ≡ outcome (columnFault D ms (index k y i j s))
 unfolding pricedPair columnFault

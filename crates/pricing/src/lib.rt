@@ -3,11 +3,14 @@ use capped::Order;
 use capped::Sum;
 use columns::Pair;
 use columns::column_sums;
+use duals::RowStarts;
 use model::Counts;
+use model::KIND_COUNT;
 use model::Outcome;
 use model::Refusal;
 use prices::column::hours_of;
 use prices::column::unit_price;
+use tables::starts::Starts;
 use tables::starts::column_box;
 ghost use mathlib.Core.Path.{_≡_};
 ghost use mathlib.Core.Bool.{_||_};
@@ -16,7 +19,7 @@ ghost use lib.ListN.{getD};
 ghost use Rattle.capped.specs.Cap.{cap, over};
 ghost use Rattle.sums.specs.Index.{index, number};
 ghost use Rattle.model.specs.Data.{read};
-ghost use Rattle.model.specs.Columns.{columnSets, columnBoxes};
+ghost use Rattle.model.specs.Columns.{columnSets, columnBoxes, kindCount};
 ghost use Rattle.model.specs.Tests.{columnFault, columnsFault};
 ghost use Rattle.tables.specs.Layout.{Inside, outcome};
 ghost use Rattle.prices.specs.Costs.{unitPrice};
@@ -55,32 +58,32 @@ fn verdict(sums: Pair, price: Sum, column: usize) -> Outcome
 
 // The test of one column, whose number is `column`; `unit` is the price of its unit, or of a unit's hour.
 fn test_column(
-    data: &[u32], ms: &[i64], at: &[usize; 43], rat: &[usize; 21], c: Counts, k: usize, y: usize, i: usize, j: usize, s: usize, unit: Sum, column: usize,
+    data: &[u32], ms: &[i64], tables_at: &Starts, rows_at: &RowStarts, c: Counts, k: usize, y: usize, i: usize, j: usize, s: usize, unit: Sum, column: usize,
 ) -> Outcome
-    requires { ⌜ Ready (now «data») (now at) (now ms) (now rat) c × ((k < 10) × (Inside c (getD columnSets k 0) y i j s
+    requires { ⌜ Ready (now «data») (now «tables_at») (now ms) (now «rows_at») c × ((k < kindCount) × (Inside c (getD columnSets k 0) y i j s
         × ((unit ≡ cap (unitPrice (read (now «data»)) k y i)) × (column ≡ number (columnBoxes c) (index k y i j s))))) ⌝ }
     ensures { λ r. ⌜ r ≡ outcome (columnFault (read (now («data» .entry))) (now (ms .entry)) (index k y i j s)) ⌝ }
 {
-    let sums = column_sums(data, ms, at, rat, c, k, y, i, j, s);
-    let price = capped::scale(unit, hours_of(data, at, c, k, s));
+    let sums = column_sums(data, ms, tables_at, rows_at, c, k, y, i, j, s);
+    let price = capped::scale(unit, hours_of(data, tables_at, c, k, s));
     verdict(sums, price, column)
 }
 
 // Refusals 11 and 12. The price of a unit is found before the slices, since it does not depend on them.
-pub fn test_columns(data: &[u32], ms: &[i64], at: &[usize; 43], rat: &[usize; 21], c: Counts) -> Outcome
-    requires { ⌜ Ready (now «data») (now at) (now ms) (now rat) c ⌝ }
+pub fn test_columns(data: &[u32], ms: &[i64], tables_at: &Starts, rows_at: &RowStarts, c: Counts) -> Outcome
+    requires { ⌜ Ready (now «data») (now «tables_at») (now ms) (now «rows_at») c ⌝ }
     ensures { λ r. ⌜ r ≡ outcome (columnsFault (read (now («data» .entry))) (now (ms .entry))) ⌝ }
 {
     let mut answer = Outcome::Fine;
     let mut column = 0;
-    'walk: for k in 0..10 {
+    'walk: for k in 0..KIND_COUNT {
         let b = column_box(c, k);
         for y in 0..b.years {
             for i in 0..b.firsts {
-                let unit = unit_price(data, at, c, k, y, i);
+                let unit = unit_price(data, tables_at, c, k, y, i);
                 for j in 0..b.seconds {
                     for s in 0..b.slices {
-                        match test_column(data, ms, at, rat, c, k, y, i, j, s, unit, column) {
+                        match test_column(data, ms, tables_at, rows_at, c, k, y, i, j, s, unit, column) {
                             Outcome::Fine => column += 1,
                             Outcome::Fails(r) => {
                                 answer = Outcome::Fails(r);

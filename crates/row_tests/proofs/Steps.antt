@@ -14,26 +14,26 @@ use Rattle.model.specs.declared.Family.{Family}
 use Rattle.model.specs.declared.Refusal.{Refusal}
 use Rattle.model.specs.Counts.{sets, slicesOf}
 use Rattle.model.specs.Data.{Data, read}
-use Rattle.model.specs.Families.{family, families, familyOf, rowBoxes}
+use Rattle.model.specs.Families.{family, families, familyOf, rowBoxes, familyCount}
 use Rattle.model.specs.Tests.{entriesFault, rowFault, rowsFault}
-use Rattle.tables.specs.Layout.{Counted, Laid, Planned, Inside, outcome, planEntry}
+use Rattle.tables.specs.Layout.{Counted, TablesAt, ColumnsAt, Inside, outcome, planEntry}
 use Rattle.tables.proofs.Laws.{getD-map-in}
 use Rattle.parts.proofs.Parts.{part-is}
 use Rattle.energy.specs.Energies.{Energies}
 use Rattle.rows.specs.Ready.{Ready}
 
 -- what a row's test works on
-pub ready : {l plan os rs : List ℕ} {energy : List (List ℕ)} {at cat : List ℕ} {c : Counts} {y places : ℕ}
-    → Laid l at c × ((entriesFault (read l) ≡ fine) × (Planned plan cat c × Energies (read l) (planEntry c plan) energy c)) → y < c .years
-    → places ≡ c .plants * slicesOf c → os ≡ take places (drop (getD cat 3 0 + y * places) plan) → rs ≡ take places (drop (getD cat 4 0 + y * places) plan)
-    → Ready l plan os rs energy at cat c y
+pub ready : {l plan os rs : List ℕ} {energy : List (List ℕ)} {tables-at columns-at : List ℕ} {c : Counts} {y places : ℕ}
+    → TablesAt l tables-at c × ((entriesFault (read l) ≡ fine) × (ColumnsAt plan columns-at c × Energies (read l) (planEntry c plan) energy c)) → y < c .years
+    → places ≡ c .plants * slicesOf c → os ≡ take places (drop (getD columns-at 3 0 + y * places) plan) → rs ≡ take places (drop (getD columns-at 4 0 + y * places) plan)
+    → Ready l plan os rs energy tables-at columns-at c y
 ready p hy q o r =
     let few = p .0 .counted in
     let plan = p .1 .1 .0 in
     record {
-      laid = p .0;
+      tablesAt = p .0;
       sound = p .1 .0;
-      planned = plan;
+      columnsAt = plan;
       outputs = part-is few plan hy q 3 (omega arith) refl o;
       reserves = part-is few plan hy q 4 (omega arith) refl r;
       energies = p .1 .1 .1;
@@ -41,12 +41,12 @@ ready p hy q o r =
 
 -- The families' index sets
 
-few-years : (c : Counts) → 1 ≤ c .years → (k : ℕ) → k < 20 → boxOf (rowBoxes c) k .years ≤ c .years
+few-years : (c : Counts) → 1 ≤ c .years → (k : ℕ) → k < familyCount → boxOf (rowBoxes c) k .years ≤ c .years
 unfolding rowBoxes
 few-years c h k l = at-place (λ k b. b .years ≤ c .years) (rowBoxes c) (box 0 0 0 0) (omega arith) k l
 
 -- the box that the code has
-module _ (c : Counts) {k : ℕ} {f : Family} {b : Box} (l : k < 20) (e : f ≡ familyOf k) (h : b ≡ boxOf (sets c) (f .set)) where
+module _ (c : Counts) {k : ℕ} {f : Family} {b : Box} (l : k < familyCount) (e : f ≡ familyOf k) (h : b ≡ boxOf (sets c) (f .set)) where
   set-is : b ≡ boxOf (sets c) (familyOf k .set)
   set-is = h ∙ ap (λ (g : Family). boxOf (sets c) (g .set)) e
 
@@ -61,11 +61,11 @@ module _ (c : Counts) {k : ℕ} {f : Family} {b : Box} (l : k < 20) (e : f ≡ f
   year-below n hy = omega (arith, few-years c (n .someYears) k l, ap (λ (a : Box). a .years) box-is)
 
 -- there are twenty families
-pub family-below : (c : Counts) {k : ℕ} → k < 20 → k < length (rowBoxes c)
+pub family-below : (c : Counts) {k : ℕ} → k < familyCount → k < length (rowBoxes c)
 unfolding rowBoxes
 family-below c l = l
 
-pub families-end : (c : Counts) {k : ℕ} → 20 ≤ k → length (rowBoxes c) ≤ k
+pub families-end : (c : Counts) {k : ℕ} → familyCount ≤ k → length (rowBoxes c) ≤ k
 unfolding rowBoxes
 families-end c l = l
 

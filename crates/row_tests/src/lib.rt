@@ -1,7 +1,8 @@
 // The walk over all rows, in document 01's order, left at the first row not met: refusals 6 and 7.
-use capped::Kept;
 use capped::Order;
+use energy::totals::EnergyTable;
 use model::Counts;
+use model::FAMILY_COUNT;
 use model::Outcome;
 use model::Refusal;
 use parts::years::year_part;
@@ -12,14 +13,15 @@ use tables::names::RESERVE;
 use tables::sets::box_of;
 use tables::sets::family_at;
 use tables::sets::slices_of;
+use tables::starts::Starts;
 ghost use mathlib.Core.Path.{_≡_};
 ghost use Prim.Native.Nat.{_<_};
 ghost use Rattle.sums.specs.Span.{fine};
 ghost use Rattle.sums.specs.Index.{index, number};
 ghost use Rattle.model.specs.Data.{read};
-ghost use Rattle.model.specs.Families.{familyOf, rowBoxes};
+ghost use Rattle.model.specs.Families.{familyOf, rowBoxes, familyCount};
 ghost use Rattle.model.specs.Tests.{entriesFault, rowFault, rowsFault};
-ghost use Rattle.tables.specs.Layout.{Laid, Planned, Inside, planEntry, outcome};
+ghost use Rattle.tables.specs.Layout.{TablesAt, ColumnsAt, Inside, planEntry, outcome};
 ghost use Rattle.energy.specs.Energies.{Energies};
 ghost use Rattle.rows.specs.Ready.{Ready};
 ghost use Rattle.row_tests.specs.Verdict.{verdictOf};
@@ -52,34 +54,34 @@ fn verdict(sides: Sides, equal: bool, row: usize) -> Outcome
 
 // The test of one row, whose number is `row`. Whether its family is one of equalities is looked up once for the family, by the caller.
 fn test_row(
-    data: &[u32], plan: &[u32], outputs: &[u32], reserves: &[u32], energy: &[Kept; 1280], at: &[usize; 43],
-    cat: &[usize; 43], c: Counts, scale: u64, k: usize, y: usize, i: usize, j: usize, s: usize, equal: bool, row: usize,
+    data: &[u32], plan: &[u32], outputs: &[u32], reserves: &[u32], energy: &EnergyTable, tables_at: &Starts,
+    columns_at: &Starts, c: Counts, scale: u64, k: usize, y: usize, i: usize, j: usize, s: usize, equal: bool, row: usize,
 ) -> Outcome
-    requires { ⌜ Ready (now «data») (now plan) (now outputs) (now reserves) (now energy) (now at) (now cat) c y × ((k < 20) × (Inside c (familyOf k .set) y i j s × ((equal ≡ familyOf k .equal) × (row ≡ number (rowBoxes c) (index k y i j s))))) ⌝ }
+    requires { ⌜ Ready (now «data») (now plan) (now outputs) (now reserves) (now energy) (now «tables_at») (now «columns_at») c y × ((k < familyCount) × (Inside c (familyOf k .set) y i j s × ((equal ≡ familyOf k .equal) × (row ≡ number (rowBoxes c) (index k y i j s))))) ⌝ }
     ensures { λ r. ⌜ r ≡ outcome (rowFault (read (now («data» .entry))) scale (planEntry c (now (plan .entry))) (index k y i j s)) ⌝ }
 {
-    let sides = row_sides(data, plan, outputs, reserves, energy, at, cat, c, scale, k, y, i, j, s);
+    let sides = row_sides(data, plan, outputs, reserves, energy, tables_at, columns_at, c, scale, k, y, i, j, s);
     verdict(sides, equal, row)
 }
 
 // Refusals 6 and 7.
-pub fn test_rows(data: &[u32], plan: &[u32], energy: &[Kept; 1280], at: &[usize; 43], cat: &[usize; 43], c: Counts, scale: u64) -> Outcome
-    requires { ⌜ Laid (now «data») (now at) c × ((entriesFault (read (now «data»)) ≡ fine) × (Planned (now plan) (now cat) c × Energies (read (now «data»)) (planEntry c (now plan)) (now energy) c)) ⌝ }
+pub fn test_rows(data: &[u32], plan: &[u32], energy: &EnergyTable, tables_at: &Starts, columns_at: &Starts, c: Counts, scale: u64) -> Outcome
+    requires { ⌜ TablesAt (now «data») (now «tables_at») c × ((entriesFault (read (now «data»)) ≡ fine) × (ColumnsAt (now plan) (now «columns_at») c × Energies (read (now «data»)) (planEntry c (now plan)) (now energy) c)) ⌝ }
     ensures { λ r. ⌜ r ≡ outcome (rowsFault (read (now («data» .entry))) scale (planEntry c (now (plan .entry)))) ⌝ }
 {
     let places = c.plants * slices_of(c);
     let mut answer = Outcome::Fine;
     let mut row = 0;
-    'walk: for k in 0..20 {
+    'walk: for k in 0..FAMILY_COUNT {
         let f = family_at(k);
         let b = box_of(c, f.set);
         for y in 0..b.years {
-            let outputs = year_part(plan, cat[GEN], places, y);
-            let reserves = year_part(plan, cat[RESERVE], places, y);
+            let outputs = year_part(plan, columns_at[GEN], places, y);
+            let reserves = year_part(plan, columns_at[RESERVE], places, y);
             for i in 0..b.firsts {
                 for j in 0..b.seconds {
                     for s in 0..b.slices {
-                        match test_row(data, plan, outputs, reserves, energy, at, cat, c, scale, k, y, i, j, s, f.equal, row) {
+                        match test_row(data, plan, outputs, reserves, energy, tables_at, columns_at, c, scale, k, y, i, j, s, f.equal, row) {
                             Outcome::Fine => row += 1,
                             Outcome::Fails(r) => {
                                 answer = Outcome::Fails(r);

@@ -19,7 +19,7 @@ use Rattle.sums.specs.Index.{index, boxOf}
 use Rattle.sums.proofs.Sums.{sum-cong}
 use Rattle.model.specs.declared.Counts.{Counts}
 use Rattle.model.specs.Counts.{sets, slicesOf, [yzs]}
-use Rattle.model.specs.Families.{familyOf}
+use Rattle.model.specs.Families.{familyOf, familyCount}
 use Rattle.tables.specs.Layout.{Inside, planEntry}
 use Rattle.parts.specs.Years.{YearPart}
 use Rattle.parts.proofs.Laws.{after-first}
@@ -119,18 +119,18 @@ zone-slice hy hz hs = record { year = hy; «first» = hz; second = omega arith; 
 -- The dispatcher: what an arm knows of the four indices, by its key
 
 -- the arms of the families with a year, a first index and a slice, and of those with a year and a first index
-module _ {l plan os rs : List ℕ} {energy : List (List ℕ)} {at cat : List ℕ} {c : Counts} {k y i j s : ℕ} (K : ℕ) (e : k ≡ K)
-    (p : Ready l plan os rs energy at cat c y × ((k < 20) × Inside c (familyOf k .set) y i j s)) where
+module _ {l plan os rs : List ℕ} {energy : List (List ℕ)} {tables-at columns-at : List ℕ} {c : Counts} {k y i j s : ℕ} (K : ℕ) (e : k ≡ K)
+    (p : Ready l plan os rs energy tables-at columns-at c y × ((k < familyCount) × Inside c (familyOf k .set) y i j s)) where
   abbrev own : Box
   own = boxOf (sets c) (familyOf K .set)
 
-  pub by-slice : Ready l plan os rs energy at cat c y × ((y < own .years) × ((i < own .firsts) × (s < own .slices)))
+  pub by-slice : Ready l plan os rs energy tables-at columns-at c y × ((y < own .years) × ((i < own .firsts) × (s < own .slices)))
   by-slice = let m = inside-at K e (p .1 .1) in (p .0, (m .year, (m .first, m .slice)))
 
-  pub by-first : Ready l plan os rs energy at cat c y × ((y < own .years) × (i < own .firsts))
+  pub by-first : Ready l plan os rs energy tables-at columns-at c y × ((y < own .years) × (i < own .firsts))
   by-first = let m = inside-at K e (p .1 .1) in (p .0, (m .year, m .first))
 
 -- what the row functions of families 15 and 18, which have no year, work on
-pub first-year : {l plan os rs : List ℕ} {energy : List (List ℕ)} {at cat : List ℕ} {c : Counts} {y : ℕ} → y < 1 → Ready l plan os rs energy at cat c y
-    → Ready l plan os rs energy at cat c 0
+pub first-year : {l plan os rs : List ℕ} {energy : List (List ℕ)} {tables-at columns-at : List ℕ} {c : Counts} {y : ℕ} → y < 1 → Ready l plan os rs energy tables-at columns-at c y
+    → Ready l plan os rs energy tables-at columns-at c 0
 first-year {y = y} h r = let z : y ≡ 0 = omega arith in rw z at r

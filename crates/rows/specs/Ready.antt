@@ -10,17 +10,17 @@ use Rattle.model.specs.declared.Counts.{Counts}
 use Rattle.model.specs.Data.{Data, read}
 use Rattle.model.specs.Families.{equation}
 use Rattle.model.specs.Tests.{above, below, constant⁺, constant⁻, entriesFault}
-use Rattle.tables.specs.Layout.{Laid, Planned, planEntry}
+use Rattle.tables.specs.Layout.{TablesAt, ColumnsAt, planEntry}
 use Rattle.parts.specs.Years.{YearPart}
 use Rattle.energy.specs.Energies.{Energies}
 use Rattle.constants.specs.declared.Constant.{Constant}
 use Rattle.rows.specs.declared.Sides.{Sides}
 
 -- data and plan as laid out and tested, and the parts made of them
-pub record Ready (l plan os rs : List ℕ) (energy : List (List ℕ)) (at cat : List ℕ) (c : Counts) (y : ℕ) : Type 0 where
-  pub laid : Laid l at c
+pub record Ready (l plan os rs : List ℕ) (energy : List (List ℕ)) (tables-at columns-at : List ℕ) (c : Counts) (y : ℕ) : Type 0 where
+  pub tablesAt : TablesAt l tables-at c
   pub sound : entriesFault (read l) ≡ fine
-  pub planned : Planned plan cat c
+  pub columnsAt : ColumnsAt plan columns-at c
   pub outputs : YearPart plan os c 3 y
   pub reserves : YearPart plan rs c 4 y
   pub energies : Energies (read l) (planEntry c plan) energy c

@@ -1,7 +1,7 @@
 // Families 5 to 11: the rows of a plant's dispatch.
 use crate::Sides;
 use crate::two_sums::empty;
-use capped::Kept;
+use energy::totals::EnergyTable;
 use energy::totals::energy_at;
 use model::Counts;
 use parts::slices::day_of;
@@ -23,6 +23,7 @@ use tables::names::RAMP_DN;
 use tables::names::RAMP_UP;
 use tables::names::RES_OFFER;
 use tables::names::VRE;
+use tables::starts::Starts;
 use terms::plants::season_hours;
 ghost use mathlib.Core.Path.{_≡_};
 ghost use Prim.Native.Nat.{_<_};
@@ -34,14 +35,14 @@ ghost use Rattle.rows.specs.Ready.{Ready, sidesOf};
 
 // 5 (22): 1000·(gen + reserve) ≤ (1000 + OverLoad)·cap
 pub fn loading(
-    data: &[u32], plan: &[u32], outputs: &[u32], reserves: &[u32], energy: &[Kept; 1280], at: &[usize; 43],
-    cat: &[usize; 43], c: Counts, scale: u64, y: usize, g: usize, s: usize,
+    data: &[u32], plan: &[u32], outputs: &[u32], reserves: &[u32], energy: &EnergyTable, tables_at: &Starts,
+    columns_at: &Starts, c: Counts, scale: u64, y: usize, g: usize, s: usize,
 ) -> Sides
-    requires { ⌜ Ready (now «data») (now plan) (now outputs) (now reserves) (now energy) (now at) (now cat) c y × ((y < c .years) × ((g < c .plants) × (s < slicesOf c))) ⌝ }
+    requires { ⌜ Ready (now «data») (now plan) (now outputs) (now reserves) (now energy) (now «tables_at») (now «columns_at») c y × ((y < c .years) × ((g < c .plants) × (s < slicesOf c))) ⌝ }
     ensures { λ r. ⌜ r ≡ sidesOf (read (now («data» .entry))) scale (planEntry c (now (plan .entry))) (row 5 y g 0 s) ⌝ }
 {
-    let rate = 1000 + by_plant(data, at, c, OVER_LOAD, g);
-    let above = capped::product(rate, planned_by_year_plant(plan, cat, c, CAP, y, g));
+    let rate = 1000 + by_plant(data, tables_at, c, OVER_LOAD, g);
+    let above = capped::product(rate, planned_by_year_plant(plan, columns_at, c, CAP, y, g));
     let output = capped::product(1000, part_at(outputs, c, g, s));
     Sides {
         above,
@@ -51,15 +52,15 @@ pub fn loading(
 
 // 6 (23): 1000·reserve ≤ ResOffer·cap
 pub fn offer(
-    data: &[u32], plan: &[u32], outputs: &[u32], reserves: &[u32], energy: &[Kept; 1280], at: &[usize; 43],
-    cat: &[usize; 43], c: Counts, scale: u64, y: usize, g: usize, s: usize,
+    data: &[u32], plan: &[u32], outputs: &[u32], reserves: &[u32], energy: &EnergyTable, tables_at: &Starts,
+    columns_at: &Starts, c: Counts, scale: u64, y: usize, g: usize, s: usize,
 ) -> Sides
-    requires { ⌜ Ready (now «data») (now plan) (now outputs) (now reserves) (now energy) (now at) (now cat) c y × ((y < c .years) × ((g < c .plants) × (s < slicesOf c))) ⌝ }
+    requires { ⌜ Ready (now «data») (now plan) (now outputs) (now reserves) (now energy) (now «tables_at») (now «columns_at») c y × ((y < c .years) × ((g < c .plants) × (s < slicesOf c))) ⌝ }
     ensures { λ r. ⌜ r ≡ sidesOf (read (now («data» .entry))) scale (planEntry c (now (plan .entry))) (row 6 y g 0 s) ⌝ }
 {
     let above = capped::product(
-        by_plant(data, at, c, RES_OFFER, g),
-        planned_by_year_plant(plan, cat, c, CAP, y, g),
+        by_plant(data, tables_at, c, RES_OFFER, g),
+        planned_by_year_plant(plan, columns_at, c, CAP, y, g),
     );
     Sides {
         above,
@@ -69,18 +70,18 @@ pub fn offer(
 
 // 7 (24), t > 0: 1000·(gen[s−1] − gen[s]) ≤ RampDn·cap
 pub fn ramp_down(
-    data: &[u32], plan: &[u32], outputs: &[u32], reserves: &[u32], energy: &[Kept; 1280], at: &[usize; 43],
-    cat: &[usize; 43], c: Counts, scale: u64, y: usize, g: usize, s: usize,
+    data: &[u32], plan: &[u32], outputs: &[u32], reserves: &[u32], energy: &EnergyTable, tables_at: &Starts,
+    columns_at: &Starts, c: Counts, scale: u64, y: usize, g: usize, s: usize,
 ) -> Sides
-    requires { ⌜ Ready (now «data») (now plan) (now outputs) (now reserves) (now energy) (now at) (now cat) c y × ((y < c .years) × ((g < c .plants) × (s < slicesOf c))) ⌝ }
+    requires { ⌜ Ready (now «data») (now plan) (now outputs) (now reserves) (now energy) (now «tables_at») (now «columns_at») c y × ((y < c .years) × ((g < c .plants) × (s < slicesOf c))) ⌝ }
     ensures { λ r. ⌜ r ≡ sidesOf (read (now («data» .entry))) scale (planEntry c (now (plan .entry))) (row 7 y g 0 s) ⌝ }
 {
     if first_hour(c, s) {
         return empty();
     }
     let ramp = capped::product(
-        by_plant(data, at, c, RAMP_DN, g),
-        planned_by_year_plant(plan, cat, c, CAP, y, g),
+        by_plant(data, tables_at, c, RAMP_DN, g),
+        planned_by_year_plant(plan, columns_at, c, CAP, y, g),
     );
     let above = capped::add_product(ramp, 1000, part_at(outputs, c, g, s));
     Sides {
@@ -91,18 +92,18 @@ pub fn ramp_down(
 
 // 8 (25), t > 0: 1000·(gen[s] − gen[s−1]) ≤ RampUp·cap
 pub fn ramp_up(
-    data: &[u32], plan: &[u32], outputs: &[u32], reserves: &[u32], energy: &[Kept; 1280], at: &[usize; 43],
-    cat: &[usize; 43], c: Counts, scale: u64, y: usize, g: usize, s: usize,
+    data: &[u32], plan: &[u32], outputs: &[u32], reserves: &[u32], energy: &EnergyTable, tables_at: &Starts,
+    columns_at: &Starts, c: Counts, scale: u64, y: usize, g: usize, s: usize,
 ) -> Sides
-    requires { ⌜ Ready (now «data») (now plan) (now outputs) (now reserves) (now energy) (now at) (now cat) c y × ((y < c .years) × ((g < c .plants) × (s < slicesOf c))) ⌝ }
+    requires { ⌜ Ready (now «data») (now plan) (now outputs) (now reserves) (now energy) (now «tables_at») (now «columns_at») c y × ((y < c .years) × ((g < c .plants) × (s < slicesOf c))) ⌝ }
     ensures { λ r. ⌜ r ≡ sidesOf (read (now («data» .entry))) scale (planEntry c (now (plan .entry))) (row 8 y g 0 s) ⌝ }
 {
     if first_hour(c, s) {
         return empty();
     }
     let ramp = capped::product(
-        by_plant(data, at, c, RAMP_UP, g),
-        planned_by_year_plant(plan, cat, c, CAP, y, g),
+        by_plant(data, tables_at, c, RAMP_UP, g),
+        planned_by_year_plant(plan, columns_at, c, CAP, y, g),
     );
     let above = capped::add_product(ramp, 1000, part_at(outputs, c, g, s - 1));
     Sides {
@@ -113,39 +114,39 @@ pub fn ramp_up(
 
 // 9 (26), minimum-load days: 1000·gen ≥ MinCapFac·cap
 pub fn minimum_load(
-    data: &[u32], plan: &[u32], outputs: &[u32], reserves: &[u32], energy: &[Kept; 1280], at: &[usize; 43],
-    cat: &[usize; 43], c: Counts, scale: u64, y: usize, g: usize, s: usize,
+    data: &[u32], plan: &[u32], outputs: &[u32], reserves: &[u32], energy: &EnergyTable, tables_at: &Starts,
+    columns_at: &Starts, c: Counts, scale: u64, y: usize, g: usize, s: usize,
 ) -> Sides
-    requires { ⌜ Ready (now «data») (now plan) (now outputs) (now reserves) (now energy) (now at) (now cat) c y × ((y < c .years) × ((g < c .plants) × (s < slicesOf c))) ⌝ }
+    requires { ⌜ Ready (now «data») (now plan) (now outputs) (now reserves) (now energy) (now «tables_at») (now «columns_at») c y × ((y < c .years) × ((g < c .plants) × (s < slicesOf c))) ⌝ }
     ensures { λ r. ⌜ r ≡ sidesOf (read (now («data» .entry))) scale (planEntry c (now (plan .entry))) (row 9 y g 0 s) ⌝ }
 {
-    if by_day(data, at, c, MIN_LOAD, season_of(c, s), day_of(c, s)) != 1 {
+    if by_day(data, tables_at, c, MIN_LOAD, season_of(c, s), day_of(c, s)) != 1 {
         return empty();
     }
     let above = capped::product(1000, part_at(outputs, c, g, s));
     Sides {
         above,
         below: capped::product(
-            by_plant(data, at, c, MIN_CAP_FAC, g),
-            planned_by_year_plant(plan, cat, c, CAP, y, g),
+            by_plant(data, tables_at, c, MIN_CAP_FAC, g),
+            planned_by_year_plant(plan, columns_at, c, CAP, y, g),
         ),
     }
 }
 
 // 10 (27): 1000·Σ Dur·gen ≤ Availability·(Σ Dur)·cap, over the season
 pub fn available(
-    data: &[u32], plan: &[u32], outputs: &[u32], reserves: &[u32], energy: &[Kept; 1280], at: &[usize; 43],
-    cat: &[usize; 43], c: Counts, scale: u64, y: usize, g: usize, q: usize,
+    data: &[u32], plan: &[u32], outputs: &[u32], reserves: &[u32], energy: &EnergyTable, tables_at: &Starts,
+    columns_at: &Starts, c: Counts, scale: u64, y: usize, g: usize, q: usize,
 ) -> Sides
-    requires { ⌜ Ready (now «data») (now plan) (now outputs) (now reserves) (now energy) (now at) (now cat) c y × ((y < c .years) × ((g < c .plants) × (q < c .seasons))) ⌝ }
+    requires { ⌜ Ready (now «data») (now plan) (now outputs) (now reserves) (now energy) (now «tables_at») (now «columns_at») c y × ((y < c .years) × ((g < c .plants) × (q < c .seasons))) ⌝ }
     ensures { λ r. ⌜ r ≡ sidesOf (read (now («data» .entry))) scale (planEntry c (now (plan .entry))) (row 10 y g 0 q) ⌝ }
 {
-    let rate = by_plant_season(data, at, c, AVAILABILITY, g, q);
+    let rate = by_plant_season(data, tables_at, c, AVAILABILITY, g, q);
     let above = capped::add_product3(
         capped::zero(),
         rate,
-        season_hours(data, at, c, q),
-        planned_by_year_plant(plan, cat, c, CAP, y, g),
+        season_hours(data, tables_at, c, q),
+        planned_by_year_plant(plan, columns_at, c, CAP, y, g),
     );
     Sides {
         above,
@@ -155,18 +156,18 @@ pub fn available(
 
 // 11 (28), VRE: 1000·gen ≤ Profile·cap
 pub fn profiled(
-    data: &[u32], plan: &[u32], outputs: &[u32], reserves: &[u32], energy: &[Kept; 1280], at: &[usize; 43],
-    cat: &[usize; 43], c: Counts, scale: u64, y: usize, g: usize, s: usize,
+    data: &[u32], plan: &[u32], outputs: &[u32], reserves: &[u32], energy: &EnergyTable, tables_at: &Starts,
+    columns_at: &Starts, c: Counts, scale: u64, y: usize, g: usize, s: usize,
 ) -> Sides
-    requires { ⌜ Ready (now «data») (now plan) (now outputs) (now reserves) (now energy) (now at) (now cat) c y × ((y < c .years) × ((g < c .plants) × (s < slicesOf c))) ⌝ }
+    requires { ⌜ Ready (now «data») (now plan) (now outputs) (now reserves) (now energy) (now «tables_at») (now «columns_at») c y × ((y < c .years) × ((g < c .plants) × (s < slicesOf c))) ⌝ }
     ensures { λ r. ⌜ r ≡ sidesOf (read (now («data» .entry))) scale (planEntry c (now (plan .entry))) (row 11 y g 0 s) ⌝ }
 {
-    if by_plant(data, at, c, VRE, g) != 1 {
+    if by_plant(data, tables_at, c, VRE, g) != 1 {
         return empty();
     }
     let above = capped::product(
-        by_plant_slice(data, at, c, PROFILE, g, s),
-        planned_by_year_plant(plan, cat, c, CAP, y, g),
+        by_plant_slice(data, tables_at, c, PROFILE, g, s),
+        planned_by_year_plant(plan, columns_at, c, CAP, y, g),
     );
     Sides {
         above,

@@ -2,7 +2,6 @@
 use crate::Sides;
 use crate::two_sums::empty;
 use crate::two_sums::with_constant;
-use capped::Kept;
 use capped::Sum;
 use constants::fleet::capital_constant;
 use constants::fleet::fuel_use_constant;
@@ -11,6 +10,7 @@ use constants::fleet::stock_constant;
 use constants::fleet::system_emission_constant;
 use constants::fleet::yearly_build_constant;
 use constants::fleet::zone_emission_constant;
+use energy::totals::EnergyTable;
 use energy::totals::burned;
 use energy::totals::emitted;
 use energy::totals::emitted_in;
@@ -23,6 +23,7 @@ use tables::names::CAP;
 use tables::names::KIND;
 use tables::names::RETIRE;
 use tables::names::YEAR;
+use tables::starts::Starts;
 use terms::plants::build_sum;
 use terms::plants::capital_sum;
 ghost use mathlib.Core.Path.{_≡_};
@@ -34,75 +35,75 @@ ghost use Rattle.sums.specs.Sum.{on};
 ghost use Rattle.model.specs.Data.{read};
 ghost use Rattle.model.specs.Families.{row};
 ghost use Rattle.model.specs.Columns.{cap as capColumn};
-ghost use Rattle.tables.specs.Layout.{Counted, Planned, planEntry};
+ghost use Rattle.tables.specs.Layout.{Counted, ColumnsAt, planEntry};
 ghost use Rattle.rows.specs.Ready.{Ready, sidesOf};
 
 // 12 (34): existing, first year: cap = GenCap; later: cap = earlier cap − retire. Candidate: cap = earlier cap (0 in the first year) + build
 pub fn stock(
-    data: &[u32], plan: &[u32], outputs: &[u32], reserves: &[u32], energy: &[Kept; 1280], at: &[usize; 43],
-    cat: &[usize; 43], c: Counts, scale: u64, y: usize, g: usize,
+    data: &[u32], plan: &[u32], outputs: &[u32], reserves: &[u32], energy: &EnergyTable, tables_at: &Starts,
+    columns_at: &Starts, c: Counts, scale: u64, y: usize, g: usize,
 ) -> Sides
-    requires { ⌜ Ready (now «data») (now plan) (now outputs) (now reserves) (now energy) (now at) (now cat) c y × ((y < c .years) × (g < c .plants)) ⌝ }
+    requires { ⌜ Ready (now «data») (now plan) (now outputs) (now reserves) (now energy) (now «tables_at») (now «columns_at») c y × ((y < c .years) × (g < c .plants)) ⌝ }
     ensures { λ r. ⌜ r ≡ sidesOf (read (now («data» .entry))) scale (planEntry c (now (plan .entry))) (row 12 y g 0 0) ⌝ }
 {
-    let own = capped::product(1, planned_by_year_plant(plan, cat, c, CAP, y, g));
-    let earlier = earlier_cap(plan, cat, c, y, g);
-    if by_plant(data, at, c, KIND, g) != 0 {
+    let own = capped::product(1, planned_by_year_plant(plan, columns_at, c, CAP, y, g));
+    let earlier = earlier_cap(plan, columns_at, c, y, g);
+    if by_plant(data, tables_at, c, KIND, g) != 0 {
         return Sides {
             above: own,
             below: capped::add_product(
                 earlier,
                 1,
-                planned_by_year_plant(plan, cat, c, BUILD, y, g),
+                planned_by_year_plant(plan, columns_at, c, BUILD, y, g),
             ),
         };
     }
     if y == 0 {
-        return with_constant(own, earlier, scale, stock_constant(data, at, c, y, g));
+        return with_constant(own, earlier, scale, stock_constant(data, tables_at, c, y, g));
     }
     Sides {
-        above: capped::add_product(own, 1, planned_by_year_plant(plan, cat, c, RETIRE, y, g)),
+        above: capped::add_product(own, 1, planned_by_year_plant(plan, columns_at, c, RETIRE, y, g)),
         below: earlier,
     }
 }
 
 // 13 (37): cap ≤ 0 for an existing plant from its retirement year on, for a candidate before its commission year
 pub fn life(
-    data: &[u32], plan: &[u32], outputs: &[u32], reserves: &[u32], energy: &[Kept; 1280], at: &[usize; 43],
-    cat: &[usize; 43], c: Counts, scale: u64, y: usize, g: usize,
+    data: &[u32], plan: &[u32], outputs: &[u32], reserves: &[u32], energy: &EnergyTable, tables_at: &Starts,
+    columns_at: &Starts, c: Counts, scale: u64, y: usize, g: usize,
 ) -> Sides
-    requires { ⌜ Ready (now «data») (now plan) (now outputs) (now reserves) (now energy) (now at) (now cat) c y × ((y < c .years) × (g < c .plants)) ⌝ }
+    requires { ⌜ Ready (now «data») (now plan) (now outputs) (now reserves) (now energy) (now «tables_at») (now «columns_at») c y × ((y < c .years) × (g < c .plants)) ⌝ }
     ensures { λ r. ⌜ r ≡ sidesOf (read (now («data» .entry))) scale (planEntry c (now (plan .entry))) (row 13 y g 0 0) ⌝ }
 {
     if in_service(
-        by_plant(data, at, c, KIND, g),
-        by_plant(data, at, c, YEAR, g),
+        by_plant(data, tables_at, c, KIND, g),
+        by_plant(data, tables_at, c, YEAR, g),
         y,
     ) {
         return empty();
     }
     Sides {
         above: capped::zero(),
-        below: capped::product(1, planned_by_year_plant(plan, cat, c, CAP, y, g)),
+        below: capped::product(1, planned_by_year_plant(plan, columns_at, c, CAP, y, g)),
     }
 }
 
 // 14 (61): existing: in the first year build + retire ≤ 0, later build ≤ 0; candidate: retire ≤ 0
 pub fn fixed(
-    data: &[u32], plan: &[u32], outputs: &[u32], reserves: &[u32], energy: &[Kept; 1280], at: &[usize; 43],
-    cat: &[usize; 43], c: Counts, scale: u64, y: usize, g: usize,
+    data: &[u32], plan: &[u32], outputs: &[u32], reserves: &[u32], energy: &EnergyTable, tables_at: &Starts,
+    columns_at: &Starts, c: Counts, scale: u64, y: usize, g: usize,
 ) -> Sides
-    requires { ⌜ Ready (now «data») (now plan) (now outputs) (now reserves) (now energy) (now at) (now cat) c y × ((y < c .years) × (g < c .plants)) ⌝ }
+    requires { ⌜ Ready (now «data») (now plan) (now outputs) (now reserves) (now energy) (now «tables_at») (now «columns_at») c y × ((y < c .years) × (g < c .plants)) ⌝ }
     ensures { λ r. ⌜ r ≡ sidesOf (read (now («data» .entry))) scale (planEntry c (now (plan .entry))) (row 14 y g 0 0) ⌝ }
 {
-    let retire = planned_by_year_plant(plan, cat, c, RETIRE, y, g);
-    if by_plant(data, at, c, KIND, g) != 0 {
+    let retire = planned_by_year_plant(plan, columns_at, c, RETIRE, y, g);
+    if by_plant(data, tables_at, c, KIND, g) != 0 {
         return Sides {
             above: capped::zero(),
             below: capped::product(1, retire),
         };
     }
-    let build = capped::product(1, planned_by_year_plant(plan, cat, c, BUILD, y, g));
+    let build = capped::product(1, planned_by_year_plant(plan, columns_at, c, BUILD, y, g));
     Sides {
         above: capped::zero(),
         below: capped::add_product_if(y == 0, build, 1, retire),
@@ -111,113 +112,113 @@ pub fn fixed(
 
 // 15 (55), candidate: Σ build ≤ MaxNewCap
 pub fn new_capacity(
-    data: &[u32], plan: &[u32], outputs: &[u32], reserves: &[u32], energy: &[Kept; 1280], at: &[usize; 43],
-    cat: &[usize; 43], c: Counts, scale: u64, g: usize,
+    data: &[u32], plan: &[u32], outputs: &[u32], reserves: &[u32], energy: &EnergyTable, tables_at: &Starts,
+    columns_at: &Starts, c: Counts, scale: u64, g: usize,
 ) -> Sides
-    requires { ⌜ Ready (now «data») (now plan) (now outputs) (now reserves) (now energy) (now at) (now cat) c 0 × (g < c .plants) ⌝ }
+    requires { ⌜ Ready (now «data») (now plan) (now outputs) (now reserves) (now energy) (now «tables_at») (now «columns_at») c 0 × (g < c .plants) ⌝ }
     ensures { λ r. ⌜ r ≡ sidesOf (read (now («data» .entry))) scale (planEntry c (now (plan .entry))) (row 15 0 g 0 0) ⌝ }
 {
-    if by_plant(data, at, c, KIND, g) == 0 {
+    if by_plant(data, tables_at, c, KIND, g) == 0 {
         return empty();
     }
     with_constant(
         capped::zero(),
-        build_sum(plan, cat, c, g),
+        build_sum(plan, columns_at, c, g),
         scale,
-        new_capacity_constant(data, at, c, g),
+        new_capacity_constant(data, tables_at, c, g),
     )
 }
 
 // 16 (58), candidate: build ≤ BuildLimit·V
 pub fn yearly_build(
-    data: &[u32], plan: &[u32], outputs: &[u32], reserves: &[u32], energy: &[Kept; 1280], at: &[usize; 43],
-    cat: &[usize; 43], c: Counts, scale: u64, y: usize, g: usize,
+    data: &[u32], plan: &[u32], outputs: &[u32], reserves: &[u32], energy: &EnergyTable, tables_at: &Starts,
+    columns_at: &Starts, c: Counts, scale: u64, y: usize, g: usize,
 ) -> Sides
-    requires { ⌜ Ready (now «data») (now plan) (now outputs) (now reserves) (now energy) (now at) (now cat) c y × ((y < c .years) × (g < c .plants)) ⌝ }
+    requires { ⌜ Ready (now «data») (now plan) (now outputs) (now reserves) (now energy) (now «tables_at») (now «columns_at») c y × ((y < c .years) × (g < c .plants)) ⌝ }
     ensures { λ r. ⌜ r ≡ sidesOf (read (now («data» .entry))) scale (planEntry c (now (plan .entry))) (row 16 y g 0 0) ⌝ }
 {
-    if by_plant(data, at, c, KIND, g) == 0 {
+    if by_plant(data, tables_at, c, KIND, g) == 0 {
         return empty();
     }
     with_constant(
         capped::zero(),
-        capped::product(1, planned_by_year_plant(plan, cat, c, BUILD, y, g)),
+        capped::product(1, planned_by_year_plant(plan, columns_at, c, BUILD, y, g)),
         scale,
-        yearly_build_constant(data, at, c, y, g),
+        yearly_build_constant(data, tables_at, c, y, g),
     )
 }
 
 // 17 (62): Σ Dur·HeatRate·gen of that zone and fuel ≤ 1000·MaxFuel
 pub fn fuel_use(
-    data: &[u32], plan: &[u32], outputs: &[u32], reserves: &[u32], energy: &[Kept; 1280], at: &[usize; 43],
-    cat: &[usize; 43], c: Counts, scale: u64, y: usize, z: usize, f: usize,
+    data: &[u32], plan: &[u32], outputs: &[u32], reserves: &[u32], energy: &EnergyTable, tables_at: &Starts,
+    columns_at: &Starts, c: Counts, scale: u64, y: usize, z: usize, f: usize,
 ) -> Sides
-    requires { ⌜ Ready (now «data») (now plan) (now outputs) (now reserves) (now energy) (now at) (now cat) c y × ((y < c .years) × ((z < c .zones) × (f < c .fuels))) ⌝ }
+    requires { ⌜ Ready (now «data») (now plan) (now outputs) (now reserves) (now energy) (now «tables_at») (now «columns_at») c y × ((y < c .years) × ((z < c .zones) × (f < c .fuels))) ⌝ }
     ensures { λ r. ⌜ r ≡ sidesOf (read (now («data» .entry))) scale (planEntry c (now (plan .entry))) (row 17 y z f 0) ⌝ }
 {
     with_constant(
         capped::zero(),
-        burned(data, at, c, energy, y, long(z), long(f)),
+        burned(data, tables_at, c, energy, y, long(z), long(f)),
         scale,
-        fuel_use_constant(data, at, c, y, f),
+        fuel_use_constant(data, tables_at, c, y, f),
     )
 }
 
 // 18 (64): Σ R·V·Annuity·cap of candidates ≤ 10⁹·MaxCapital
 pub fn capital(
-    data: &[u32], plan: &[u32], outputs: &[u32], reserves: &[u32], energy: &[Kept; 1280], at: &[usize; 43],
-    cat: &[usize; 43], c: Counts, scale: u64,
+    data: &[u32], plan: &[u32], outputs: &[u32], reserves: &[u32], energy: &EnergyTable, tables_at: &Starts,
+    columns_at: &Starts, c: Counts, scale: u64,
 ) -> Sides
-    requires { ⌜ Ready (now «data») (now plan) (now outputs) (now reserves) (now energy) (now at) (now cat) c 0 ⌝ }
+    requires { ⌜ Ready (now «data») (now plan) (now outputs) (now reserves) (now energy) (now «tables_at») (now «columns_at») c 0 ⌝ }
     ensures { λ r. ⌜ r ≡ sidesOf (read (now («data» .entry))) scale (planEntry c (now (plan .entry))) (row 18 0 0 0 0) ⌝ }
 {
     with_constant(
         capped::zero(),
-        capital_sum(data, plan, at, cat, c),
+        capital_sum(data, plan, tables_at, columns_at, c),
         scale,
-        capital_constant(data, at, c),
+        capital_constant(data, tables_at, c),
     )
 }
 
 // 19 (66): Σ Dur·E·gen in z ≤ 1000·zone cap
 pub fn zone_emission(
-    data: &[u32], plan: &[u32], outputs: &[u32], reserves: &[u32], energy: &[Kept; 1280], at: &[usize; 43],
-    cat: &[usize; 43], c: Counts, scale: u64, y: usize, z: usize,
+    data: &[u32], plan: &[u32], outputs: &[u32], reserves: &[u32], energy: &EnergyTable, tables_at: &Starts,
+    columns_at: &Starts, c: Counts, scale: u64, y: usize, z: usize,
 ) -> Sides
-    requires { ⌜ Ready (now «data») (now plan) (now outputs) (now reserves) (now energy) (now at) (now cat) c y × ((y < c .years) × (z < c .zones)) ⌝ }
+    requires { ⌜ Ready (now «data») (now plan) (now outputs) (now reserves) (now energy) (now «tables_at») (now «columns_at») c y × ((y < c .years) × (z < c .zones)) ⌝ }
     ensures { λ r. ⌜ r ≡ sidesOf (read (now («data» .entry))) scale (planEntry c (now (plan .entry))) (row 19 y z 0 0) ⌝ }
 {
     with_constant(
         capped::zero(),
-        emitted_in(data, at, c, energy, y, long(z)),
+        emitted_in(data, tables_at, c, energy, y, long(z)),
         scale,
-        zone_emission_constant(data, at, c, y, z),
+        zone_emission_constant(data, tables_at, c, y, z),
     )
 }
 
 // 20 (68): Σ Dur·E·gen ≤ 1000·system cap
 pub fn system_emission(
-    data: &[u32], plan: &[u32], outputs: &[u32], reserves: &[u32], energy: &[Kept; 1280], at: &[usize; 43],
-    cat: &[usize; 43], c: Counts, scale: u64, y: usize,
+    data: &[u32], plan: &[u32], outputs: &[u32], reserves: &[u32], energy: &EnergyTable, tables_at: &Starts,
+    columns_at: &Starts, c: Counts, scale: u64, y: usize,
 ) -> Sides
-    requires { ⌜ Ready (now «data») (now plan) (now outputs) (now reserves) (now energy) (now at) (now cat) c y × (y < c .years) ⌝ }
+    requires { ⌜ Ready (now «data») (now plan) (now outputs) (now reserves) (now energy) (now «tables_at») (now «columns_at») c y × (y < c .years) ⌝ }
     ensures { λ r. ⌜ r ≡ sidesOf (read (now («data» .entry))) scale (planEntry c (now (plan .entry))) (row 20 y 0 0 0) ⌝ }
 {
     with_constant(
         capped::zero(),
-        emitted(data, at, c, energy, y),
+        emitted(data, tables_at, c, energy, y),
         scale,
-        system_emission_constant(data, at, c, y),
+        system_emission_constant(data, tables_at, c, y),
     )
 }
 
 // The capacity of the year before, 0 before the first.
-fn earlier_cap(plan: &[u32], cat: &[usize; 43], c: Counts, y: usize, g: usize) -> Sum
-    requires { ⌜ Counted c × (Planned (now plan) (now cat) c × ((y < c .years) × (g < c .plants))) ⌝ }
+fn earlier_cap(plan: &[u32], columns_at: &Starts, c: Counts, y: usize, g: usize) -> Sum
+    requires { ⌜ Counted c × (ColumnsAt (now plan) (now «columns_at») c × ((y < c .years) × (g < c .plants))) ⌝ }
     ensures { λ r. ⌜ r ≡ cap (on (ltb 0 y) (1 * planEntry c (now (plan .entry)) (capColumn (y - 1) g))) ⌝ }
 {
     if 0 < y {
-        return capped::product(1, planned_by_year_plant(plan, cat, c, CAP, y - 1, g));
+        return capped::product(1, planned_by_year_plant(plan, columns_at, c, CAP, y - 1, g));
     }
     capped::zero()
 }

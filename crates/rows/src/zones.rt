@@ -1,11 +1,11 @@
 // Families 1 to 4: the rows of a zone.
 use crate::Sides;
 use crate::two_sums::with_constant;
-use capped::Kept;
 use constants::zones::balance_constant;
 use constants::zones::firm_constant;
 use constants::zones::spinning_constant;
 use constants::zones::transfer_constant;
+use energy::totals::EnergyTable;
 use model::Counts;
 use parts::slices::long;
 use tables::entries::planned_by_link_slice;
@@ -18,6 +18,7 @@ use tables::names::SPINSHORT;
 use tables::names::SURPLUS;
 use tables::names::TRANS;
 use tables::names::UNMET;
+use tables::starts::Starts;
 use terms::links::arriving;
 use terms::links::received;
 use terms::links::sent;
@@ -34,74 +35,74 @@ ghost use Rattle.rows.specs.Ready.{Ready, sidesOf};
 
 // 1 (14): 1000·Σ gen in z − 1000·Σ trans[z,z2] + Σ (1000 − Loss[z2,z])·trans[z2,z] + unmet − surplus = Demand·EE
 pub fn balance(
-    data: &[u32], plan: &[u32], outputs: &[u32], reserves: &[u32], energy: &[Kept; 1280], at: &[usize; 43],
-    cat: &[usize; 43], c: Counts, scale: u64, y: usize, z: usize, s: usize,
+    data: &[u32], plan: &[u32], outputs: &[u32], reserves: &[u32], energy: &EnergyTable, tables_at: &Starts,
+    columns_at: &Starts, c: Counts, scale: u64, y: usize, z: usize, s: usize,
 ) -> Sides
-    requires { ⌜ Ready (now «data») (now plan) (now outputs) (now reserves) (now energy) (now at) (now cat) c y × ((y < c .years) × ((z < c .zones) × (s < slicesOf c))) ⌝ }
+    requires { ⌜ Ready (now «data») (now plan) (now outputs) (now reserves) (now energy) (now «tables_at») (now «columns_at») c y × ((y < c .years) × ((z < c .zones) × (s < slicesOf c))) ⌝ }
     ensures { λ r. ⌜ r ≡ sidesOf (read (now («data» .entry))) scale (planEntry c (now (plan .entry))) (row 1 y z 0 s) ⌝ }
 {
-    let made = zone_sum(data, at, c, outputs, long(z), s);
-    let supplied = capped::join(made, received(data, plan, at, cat, c, y, z, s));
+    let made = zone_sum(data, tables_at, c, outputs, long(z), s);
+    let supplied = capped::join(made, received(data, plan, tables_at, columns_at, c, y, z, s));
     let above = capped::add_product(
         supplied,
         1,
-        planned_by_zone_slice(plan, cat, c, UNMET, y, z, s),
+        planned_by_zone_slice(plan, columns_at, c, UNMET, y, z, s),
     );
     let below = capped::add_product(
-        sent(plan, cat, c, y, z, s),
+        sent(plan, columns_at, c, y, z, s),
         1,
-        planned_by_zone_slice(plan, cat, c, SURPLUS, y, z, s),
+        planned_by_zone_slice(plan, columns_at, c, SURPLUS, y, z, s),
     );
-    with_constant(above, below, scale, balance_constant(data, at, c, y, z, s))
+    with_constant(above, below, scale, balance_constant(data, tables_at, c, y, z, s))
 }
 
 // 2 (15): trans ≤ TL
 pub fn transfer(
-    data: &[u32], plan: &[u32], outputs: &[u32], reserves: &[u32], energy: &[Kept; 1280], at: &[usize; 43],
-    cat: &[usize; 43], c: Counts, scale: u64, y: usize, z: usize, w: usize, s: usize,
+    data: &[u32], plan: &[u32], outputs: &[u32], reserves: &[u32], energy: &EnergyTable, tables_at: &Starts,
+    columns_at: &Starts, c: Counts, scale: u64, y: usize, z: usize, w: usize, s: usize,
 ) -> Sides
-    requires { ⌜ Ready (now «data») (now plan) (now outputs) (now reserves) (now energy) (now at) (now cat) c y × ((y < c .years) × ((z < c .zones) × ((w < c .zones) × (s < slicesOf c)))) ⌝ }
+    requires { ⌜ Ready (now «data») (now plan) (now outputs) (now reserves) (now energy) (now «tables_at») (now «columns_at») c y × ((y < c .years) × ((z < c .zones) × ((w < c .zones) × (s < slicesOf c)))) ⌝ }
     ensures { λ r. ⌜ r ≡ sidesOf (read (now («data» .entry))) scale (planEntry c (now (plan .entry))) (row 2 y z w s) ⌝ }
 {
-    let below = capped::product(1, planned_by_link_slice(plan, cat, c, TRANS, y, z, w, s));
-    with_constant(capped::zero(), below, scale, transfer_constant(data, at, c, y, z, w, s))
+    let below = capped::product(1, planned_by_link_slice(plan, columns_at, c, TRANS, y, z, w, s));
+    with_constant(capped::zero(), below, scale, transfer_constant(data, tables_at, c, y, z, w, s))
 }
 
 // 3 (19): 1000·Σ reserve in z + spinshort + 1000·Σ (TL[z2,z] − trans[z2,z]) ≥ 1000·SRes + Err·Σ gen of VRE in z
 pub fn spinning(
-    data: &[u32], plan: &[u32], outputs: &[u32], reserves: &[u32], energy: &[Kept; 1280], at: &[usize; 43],
-    cat: &[usize; 43], c: Counts, scale: u64, y: usize, z: usize, s: usize,
+    data: &[u32], plan: &[u32], outputs: &[u32], reserves: &[u32], energy: &EnergyTable, tables_at: &Starts,
+    columns_at: &Starts, c: Counts, scale: u64, y: usize, z: usize, s: usize,
 ) -> Sides
-    requires { ⌜ Ready (now «data») (now plan) (now outputs) (now reserves) (now energy) (now at) (now cat) c y × ((y < c .years) × ((z < c .zones) × (s < slicesOf c))) ⌝ }
+    requires { ⌜ Ready (now «data») (now plan) (now outputs) (now reserves) (now energy) (now «tables_at») (now «columns_at») c y × ((y < c .years) × ((z < c .zones) × (s < slicesOf c))) ⌝ }
     ensures { λ r. ⌜ r ≡ sidesOf (read (now («data» .entry))) scale (planEntry c (now (plan .entry))) (row 3 y z 0 s) ⌝ }
 {
-    let held = zone_sum(data, at, c, reserves, long(z), s);
+    let held = zone_sum(data, tables_at, c, reserves, long(z), s);
     let above = capped::add_product(
         held,
         1,
-        planned_by_zone_slice(plan, cat, c, SPINSHORT, y, z, s),
+        planned_by_zone_slice(plan, columns_at, c, SPINSHORT, y, z, s),
     );
-    let err = single(data, at, c, ERR);
+    let err = single(data, tables_at, c, ERR);
     let below = capped::join(
-        arriving(plan, cat, c, y, z, s),
-        vre_sum(data, at, c, outputs, long(z), err, s),
+        arriving(plan, columns_at, c, y, z, s),
+        vre_sum(data, tables_at, c, outputs, long(z), err, s),
     );
-    with_constant(above, below, scale, spinning_constant(data, at, c, y, z, s))
+    with_constant(above, below, scale, spinning_constant(data, tables_at, c, y, z, s))
 }
 
 // 4 (21): Σ CapCredit·cap + firmshort + 1000·Σ TL[z2,z] over z2 and all seasons ≥ (1000 + PRM)·peak
 pub fn firm(
-    data: &[u32], plan: &[u32], outputs: &[u32], reserves: &[u32], energy: &[Kept; 1280], at: &[usize; 43],
-    cat: &[usize; 43], c: Counts, scale: u64, y: usize, z: usize,
+    data: &[u32], plan: &[u32], outputs: &[u32], reserves: &[u32], energy: &EnergyTable, tables_at: &Starts,
+    columns_at: &Starts, c: Counts, scale: u64, y: usize, z: usize,
 ) -> Sides
-    requires { ⌜ Ready (now «data») (now plan) (now outputs) (now reserves) (now energy) (now at) (now cat) c y × ((y < c .years) × (z < c .zones)) ⌝ }
+    requires { ⌜ Ready (now «data») (now plan) (now outputs) (now reserves) (now energy) (now «tables_at») (now «columns_at») c y × ((y < c .years) × (z < c .zones)) ⌝ }
     ensures { λ r. ⌜ r ≡ sidesOf (read (now («data» .entry))) scale (planEntry c (now (plan .entry))) (row 4 y z 0 0) ⌝ }
 {
-    let credit = credit_sum(data, plan, at, cat, c, y, long(z));
+    let credit = credit_sum(data, plan, tables_at, columns_at, c, y, long(z));
     let above = capped::add_product(
         credit,
         1,
-        planned_by_year_zone(plan, cat, c, FIRMSHORT, y, z),
+        planned_by_year_zone(plan, columns_at, c, FIRMSHORT, y, z),
     );
-    with_constant(above, capped::zero(), scale, firm_constant(data, at, c, y, z))
+    with_constant(above, capped::zero(), scale, firm_constant(data, tables_at, c, y, z))
 }

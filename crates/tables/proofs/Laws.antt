@@ -20,11 +20,11 @@ use Rattle.sums.proofs.Lists.{Alls}
 use Rattle.sums.proofs.Numbering.{number-bound}
 use Rattle.model.specs.declared.Counts.{Counts}
 use Rattle.model.specs.Counts.{sets, slicesOf}
-use Rattle.model.specs.Data.{tableBoxes, placeOf, dataLength, read}
-use Rattle.model.specs.Columns.{columnSets, columnBoxes}
+use Rattle.model.specs.Data.{tableBoxes, placeOf, dataLength, read, tableCount}
+use Rattle.model.specs.Columns.{columnSets, columnBoxes, kindCount}
 use Rattle.model.specs.declared.Family.{Family}
-use Rattle.model.specs.Families.{family, families, familyOf, rowBoxes, shapeOf}
-use Rattle.tables.specs.Layout.{Counted, Small, Inside, Entered, Column, startFrom, tableSets, planEntry}
+use Rattle.model.specs.Families.{family, families, familyOf, rowBoxes, shapeOf, familyCount}
+use Rattle.tables.specs.Layout.{Counted, Small, Inside, EntryAt, ColumnAt, startFrom, tableSets, planEntry}
 
 -- a product of two numbers with known bounds fits; antt computes the test on the bounds
 pub small : (A B : ℕ) {a b : ℕ} → T (ltb (A * B) (2 ^ 64)) → a ≤ A → b ≤ B → Fits w64 (a * b)
@@ -102,12 +102,12 @@ few-inside {b} {k} {y} {i} {j} {s} m h =
 
 -- The family sizes
 
-pub size-is : (c : Counts) (k : ℕ) → k < 20 → volume (boxOf (sets c) (familyOf k .set)) ≡ volume (boxOf (rowBoxes c) k)
+pub size-is : (c : Counts) (k : ℕ) → k < familyCount → volume (boxOf (sets c) (familyOf k .set)) ≡ volume (boxOf (rowBoxes c) k)
 unfolding familyOf rowBoxes
 size-is c k h =
     ap (λ (b : Box). volume b) (sym (getD-map-in (λ (f : Family). boxOf (sets c) (f .set)) families (family 0 0 false) (box 0 0 0 0) k h))
 
-pub shape-is : (c : Counts) (sizes : List ℕ) → length sizes ≡ 20 → ((i : ℕ) → i < 20 → getD sizes i 0 ≡ volume (boxOf (rowBoxes c) i))
+pub shape-is : (c : Counts) (sizes : List ℕ) → length sizes ≡ familyCount → ((i : ℕ) → i < familyCount → getD sizes i 0 ≡ volume (boxOf (rowBoxes c) i))
     → record { counts = c; sizes = sizes } ≡ shapeOf c
 unfolding shapeOf rowBoxes
 shape-is c sizes n h =
@@ -150,50 +150,50 @@ module _ (c : Counts) (kinds : List ℕ) where
 
 -- after the last table the list ends: the lengths that refusals 2 and 5 test
 
-pub tables-end : (c : Counts) → startFrom c tableSets 7 42 ≡ dataLength c
+pub tables-end : (c : Counts) → startFrom c tableSets 7 tableCount ≡ dataLength c
 unfolding dataLength tableBoxes
-tables-end c = start-at c tableSets 7 42 (omega arith)
+tables-end c = start-at c tableSets 7 tableCount (omega arith)
 
-pub columns-end : (c : Counts) → startFrom c columnSets 0 10 ≡ count (columnBoxes c)
+pub columns-end : (c : Counts) → startFrom c columnSets 0 kindCount ≡ count (columnBoxes c)
 unfolding columnBoxes
-columns-end c = omega (arith, start-at c columnSets 0 10 (omega arith))
+columns-end c = omega (arith, start-at c columnSets 0 kindCount (omega arith))
 
 -- The two laws that each reader cites, for the data and for the plan
 
-module _ {l at : List ℕ} {c : Counts} {t k y i j s : ℕ} (m : Entered l at c t k y i j s) where
+module _ {l tables-at : List ℕ} {c : Counts} {t k y i j s : ℕ} (m : EntryAt l tables-at c t k y i j s) where
   abbrev pub entryPlace : ℕ
-  entryPlace = getD at t 0 + inside (boxOf (sets c) k) y i j s
+  entryPlace = getD tables-at t 0 + inside (boxOf (sets c) k) y i j s
 
   pub entry-below : entryPlace < length l
   unfolding dataLength tableBoxes
   entry-below =
-      omega (arith, m .laid .starts t (omega arith), m .laid .whole, placed c tableSets 7 t k y i j s (m .table) (m .set) (m .inside))
+      omega (arith, m .tablesAt .starts t (omega arith), m .tablesAt .whole, placed c tableSets 7 t k y i j s (m .table) (m .set) (m .inside))
 
   pub entry-place : entryPlace ≡ placeOf (read l .counts) (index t y i j s)
   unfolding placeOf tableBoxes
   entry-place =
       omega (
         arith,
-        m .laid .starts t (omega arith),
+        m .tablesAt .starts t (omega arith),
         place-is c tableSets 7 t k y i j s (m .table) (m .set) (m .inside),
-        ap (λ (d : Counts). placeOf d (index t y i j s)) (m .laid .counts),
+        ap (λ (d : Counts). placeOf d (index t y i j s)) (m .tablesAt .counts),
       )
 
   pub entry-is : getD l entryPlace 0 ≡ read l .entry t y i j s
   unfolding read
   entry-is = ap (λ (n : ℕ). getD l n 0) entry-place
 
-module _ {plan at : List ℕ} {c : Counts} {t k y i j s : ℕ} (m : Column plan at c t k y i j s) where
+module _ {plan columns-at : List ℕ} {c : Counts} {t k y i j s : ℕ} (m : ColumnAt plan columns-at c t k y i j s) where
   abbrev pub columnPlace : ℕ
-  columnPlace = getD at t 0 + inside (boxOf (sets c) k) y i j s
+  columnPlace = getD columns-at t 0 + inside (boxOf (sets c) k) y i j s
 
   pub column-below : columnPlace < length plan
   unfolding columnBoxes
   column-below =
-      omega (arith, m .planned .starts t (omega arith), m .planned .whole, placed c columnSets 0 t k y i j s (m .table) (m .set) (m .inside))
+      omega (arith, m .columnsAt .starts t (omega arith), m .columnsAt .whole, placed c columnSets 0 t k y i j s (m .table) (m .set) (m .inside))
 
   pub column-is : getD plan columnPlace 0 ≡ planEntry c plan (index t y i j s)
   unfolding columnBoxes
   column-is =
       ap (λ (n : ℕ). getD plan n 0)
-      (omega (arith, m .planned .starts t (omega arith), place-is c columnSets 0 t k y i j s (m .table) (m .set) (m .inside)))
+      (omega (arith, m .columnsAt .starts t (omega arith), place-is c columnSets 0 t k y i j s (m .table) (m .set) (m .inside)))

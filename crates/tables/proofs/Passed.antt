@@ -14,10 +14,10 @@ use Rattle.model.specs.declared.Outcome.the-variants.{Fine, Fails}
 use Rattle.model.specs.declared.Refusal.{Refusal}
 use Rattle.model.specs.declared.Refusal.the-variants.{Shape, DataLength}
 use Rattle.model.specs.declared.Counts.{Counts}
-use Rattle.model.specs.Data.{within, _to_, mostCounts, countsOf, dataLength, read}
+use Rattle.model.specs.Data.{within, _to_, mostCounts, countsOf, dataLength, read, tableCount}
 use Rattle.model.specs.Tests.{unless, headFault, countFault, countsFault, lengthFault, entriesFault, dataFault}
 use Rattle.model.proofs.Sound.{count-range, passed}
-use Rattle.tables.specs.Layout.{outcome, Counted, Laid, startFrom, tableSets}
+use Rattle.tables.specs.Layout.{outcome, Counted, TablesAt, startFrom, tableSets}
 use Rattle.tables.proofs.Laws.{tables-end}
 
 -- Outcomes of one test and then another
@@ -55,7 +55,7 @@ module _ (l : List ℕ) where
   count-tested i e q = rw (q, e)
 
   -- the length that the counts give is where the last table ends
-  pub whole-is : {c : Counts} {n : ℕ} → c ≡ countsOf l → n ≡ startFrom c tableSets 7 42 → n ≡ dataLength (countsOf l)
+  pub whole-is : {c : Counts} {n : ℕ} → c ≡ countsOf l → n ≡ startFrom c tableSets 7 tableCount → n ≡ dataLength (countsOf l)
   whole-is {c} e q = q ∙ tables-end c ∙ ap dataLength e
 
   pub length-wrong : {n : ℕ} → n ≡ dataLength (countsOf l) → (length l ≡ n → ⊥) → Fails (DataLength n) ≡ outcome (lengthFault l)
@@ -115,9 +115,9 @@ module _ (l : List ℕ) (sound : headFaults l ≡ fine) where
   passed-counts = counted l (parts .1)
 
   -- with the starts that `table_starts` gives
-  pub passed-laid : (at : List ℕ) {c : Counts} → c ≡ countsOf l → ((t : ℕ) → t ≤ 42 → getD at t 0 ≡ startFrom c tableSets 7 t) → Laid l at c
+  pub passed-tables : (tables-at : List ℕ) {c : Counts} → c ≡ countsOf l → ((t : ℕ) → t ≤ tableCount → getD tables-at t 0 ≡ startFrom c tableSets 7 t) → TablesAt l tables-at c
   unfolding lengthFault read
-  passed-laid at {c} e s =
+  passed-tables tables-at {c} e s =
       rw e record {
         counts = refl;
         counted = passed-counts;
@@ -138,5 +138,5 @@ module _ (l : List ℕ) (sound : dataFault l ≡ fine) where
   pub sound-counts : Counted (countsOf l)
   sound-counts = passed-counts l sound-head
 
-  pub sound-laid : (at : List ℕ) {c : Counts} → c ≡ countsOf l → ((t : ℕ) → t ≤ 42 → getD at t 0 ≡ startFrom c tableSets 7 t) → Laid l at c
-  sound-laid = passed-laid l sound-head
+  pub sound-tables : (tables-at : List ℕ) {c : Counts} → c ≡ countsOf l → ((t : ℕ) → t ≤ tableCount → getD tables-at t 0 ≡ startFrom c tableSets 7 t) → TablesAt l tables-at c
+  sound-tables = passed-tables l sound-head

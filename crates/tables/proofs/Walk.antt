@@ -18,7 +18,7 @@ use Rattle.model.specs.Counts.{sets}
 use Rattle.model.specs.Data.{Data, within, tables, tableBoxes, read, placeOf}
 use Rattle.model.specs.Tests.{unless, entryFault, entriesFault}
 use Rattle.tables.specs.declared.ranges.Range.{Range}
-use Rattle.tables.specs.Layout.{Laid, Entered, startFrom, tableSets}
+use Rattle.tables.specs.Layout.{TablesAt, EntryAt, startFrom, tableSets}
 use Rattle.tables.specs.Ranges.{ranged, rangeOf}
 use Rattle.tables.proofs.Laws.{entry-below, entry-is, entry-place, box-at, start-more}
 
@@ -65,7 +65,7 @@ pub all-tables : (D : Data) → entriesFault D ≡ upto (length tables) (tableFa
 unfolding entriesFault tableBoxes
 all-tables D = refl
 
-module _ {l at : List ℕ} {c : Counts} (h : Laid l at c) {b : Box} {t : ℕ} (few : t < length tables) (e : b ≡ boxOf (sets c) (getD tableSets t 0)) where
+module _ {l tables-at : List ℕ} {c : Counts} (h : TablesAt l tables-at c) {b : Box} {t : ℕ} (few : t < length tables) (e : b ≡ boxOf (sets c) (getD tableSets t 0)) where
   -- the place where the table starts
   abbrev pub base : ℕ
   base = startFrom c tableSets 7 t
@@ -78,20 +78,20 @@ module _ {l at : List ℕ} {c : Counts} (h : Laid l at c) {b : Box} {t : ℕ} (f
   next-table = omega (arith, start-more c tableSets 7 t {size = volume b} refl (ap (λ (d : Box). volume d) e))
 
   module _ {y i j s place : ℕ} (hy : y < b .years) (hi : i < b .firsts) (hj : j < b .seconds) (hs : s < b .slices) (q : place ≡ base + inside b y i j s) where
-    entered : Entered l at c t (getD tableSets t 0) y i j s
-    entered = record { laid = h; table = few; set = refl; inside = record { year = rw e at hy; «first» = rw e at hi; second = rw e at hj; slice = rw e at hs } }
+    entryAt : EntryAt l tables-at c t (getD tableSets t 0) y i j s
+    entryAt = record { tablesAt = h; table = few; set = refl; inside = record { year = rw e at hy; «first» = rw e at hi; second = rw e at hj; slice = rw e at hs } }
 
-    is-place : place ≡ getD at t 0 + inside (boxOf (sets c) (getD tableSets t 0)) y i j s
+    is-place : place ≡ getD tables-at t 0 + inside (boxOf (sets c) (getD tableSets t 0)) y i j s
     is-place = omega (arith, q, h .starts t (omega arith), ap (λ (d : Box). inside d y i j s) e)
 
     pub place-below : place < length l
-    place-below = omega (arith, is-place, entry-below entered)
+    place-below = omega (arith, is-place, entry-below entryAt)
 
     -- what the test of one entry says
     pub tested : {r : Range} {ok : Bool} → ranged r ≡ rangeOf t (read l) y i j s → ok ≡ within (ranged r) (getD l place 0)
         → entryFault (read l) (index t y i j s) ≡ unless ok (Entry place)
     unfolding entryFault
     tested {r} {ok} w o =
-        let v : getD l place 0 ≡ read l .entry t y i j s = ap (λ (n : ℕ). getD l n 0) is-place ∙ entry-is entered in
-        let n : place ≡ placeOf (read l .counts) (index t y i j s) = is-place ∙ entry-place entered in
+        let v : getD l place 0 ≡ read l .entry t y i j s = ap (λ (n : ℕ). getD l n 0) is-place ∙ entry-is entryAt in
+        let n : place ≡ placeOf (read l .counts) (index t y i j s) = is-place ∙ entry-place entryAt in
         rw (o, ← w, ← v, ← n)

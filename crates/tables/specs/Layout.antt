@@ -55,16 +55,16 @@ abbrev pub startFrom : Counts → List ℕ → ℕ → ℕ → ℕ
 startFrom c kinds from k = from + sum k (λ i. volume (boxOf (sets c) (getD kinds i 0)))
 
 -- data that passed refusals 1 and 2, its counts, and the starts of its tables
-pub record Laid (l at : List ℕ) (c : Counts) : Type 0 where
+pub record TablesAt (l tables-at : List ℕ) (c : Counts) : Type 0 where
   pub counts : read l .counts ≡ c
   pub counted : Counted c
   pub whole : length l ≡ dataLength c
-  pub starts : (t : ℕ) → t ≤ length tables → getD at t 0 ≡ startFrom c tableSets (length mostCounts) t
+  pub starts : (t : ℕ) → t ≤ length tables → getD tables-at t 0 ≡ startFrom c tableSets (length mostCounts) t
 
 -- a plan of the right length, and the starts of its tables
-pub record Planned (plan at : List ℕ) (c : Counts) : Type 0 where
+pub record ColumnsAt (plan columns-at : List ℕ) (c : Counts) : Type 0 where
   pub whole : length plan ≡ count (columnBoxes c)
-  pub starts : (k : ℕ) → k ≤ length columnSets → getD at k 0 ≡ startFrom c columnSets 0 k
+  pub starts : (k : ℕ) → k ≤ length columnSets → getD columns-at k 0 ≡ startFrom c columnSets 0 k
 
 -- four indices inside the index set of code k
 pub record Inside (c : Counts) (k y i j s : ℕ) : Type 0 where
@@ -74,15 +74,15 @@ pub record Inside (c : Counts) (k y i j s : ℕ) : Type 0 where
   pub slice : s < boxOf (sets c) k .slices
 
 -- entry y, i, j, s of table t can be read: the table's index set has the code k
-pub record Entered (l at : List ℕ) (c : Counts) (t k y i j s : ℕ) : Type 0 where
-  pub laid : Laid l at c
+pub record EntryAt (l tables-at : List ℕ) (c : Counts) (t k y i j s : ℕ) : Type 0 where
+  pub tablesAt : TablesAt l tables-at c
   pub table : t < length tables
   pub set : getD tableSets t 0 ≡ k
   pub inside : Inside c k y i j s
 
 -- the same of the plan's table of columns t
-pub record Column (plan at : List ℕ) (c : Counts) (t k y i j s : ℕ) : Type 0 where
-  pub planned : Planned plan at c
+pub record ColumnAt (plan columns-at : List ℕ) (c : Counts) (t k y i j s : ℕ) : Type 0 where
+  pub columnsAt : ColumnsAt plan columns-at c
   pub counted : Counted c
   pub table : t < length columnSets
   pub set : getD columnSets t 0 ≡ k

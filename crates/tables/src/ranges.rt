@@ -1,13 +1,15 @@
 // The range of each entry of the data, both ends included.
 use crate::entries::by_plant;
+use crate::starts::Starts;
 use model::Counts;
+use model::TABLE_COUNT;
 ghost use mathlib.Core.Path.{_≡_};
 ghost use Prim.Native.Nat.{ℕ, _+_, _-_, _≤_, _<_};
 ghost use lib.ListN.{getD};
 ghost use Rattle.sums.specs.Index.{boxOf};
 ghost use Rattle.model.specs.Counts.{sets, [g]};
-ghost use Rattle.model.specs.Data.{within, either, _to_, most32, read, existing};
-ghost use Rattle.tables.specs.Layout.{Laid, Entered, tableSets};
+ghost use Rattle.model.specs.Data.{within, either, _to_, most32, read, existing, tableCount};
+ghost use Rattle.tables.specs.Layout.{TablesAt, EntryAt, tableSets};
 ghost use Rattle.tables.specs.Ranges.{ranged, fixed, byIndex, rangeOf};
 
 pub struct Range {
@@ -33,7 +35,7 @@ const ZERO: Range = Range { least: 0, most: 0 };
 const BY_INDEX: Range = ZERO;
 
 // The range of each table whose entries have one range.
-const FIXED: [Range; 42] = [
+const FIXED: [Range; TABLE_COUNT] = [
     PER_MILLE, // 0 return rate
     Range { least: 1, most: 20 }, // 1 weight
     Range { least: 0, most: 8784 }, // 2 duration
@@ -79,7 +81,7 @@ const FIXED: [Range; 42] = [
 ];
 
 fn fixed_range(t: usize) -> Range
-    requires { ⌜ t < 42 ⌝ }
+    requires { ⌜ t < tableCount ⌝ }
     ensures { λ r. ⌜ r ≡ getD fixed t byIndex ⌝ }
 {
     FIXED[t]
@@ -132,24 +134,24 @@ fn plant_year(b: bool, years: usize) -> Range
 }
 
 // Whether a plant is an existing one.
-fn is_existing(data: &[u32], at: &[usize; 43], c: Counts, g: usize) -> bool
-    requires { ⌜ Entered (now «data») (now at) c 6 [g] 0 g 0 0 ⌝ }
+fn is_existing(data: &[u32], tables_at: &Starts, c: Counts, g: usize) -> bool
+    requires { ⌜ EntryAt (now «data») (now «tables_at») c 6 [g] 0 g 0 0 ⌝ }
     ensures { λ r. ⌜ r ≡ existing (read (now («data» .entry))) g ⌝ }
 {
-    by_plant(data, at, c, 6, g) == 0
+    by_plant(data, tables_at, c, 6, g) == 0
 }
 
 // The range of table `t` at first index `i` and second index `j`. No range depends on the year or the slice.
-pub fn range_at(data: &[u32], at: &[usize; 43], c: Counts, t: usize, i: usize, j: usize) -> Range
-    requires { ⌜ Laid (now «data») (now at) c × ((t < 42) × (i < boxOf (sets c) (getD tableSets t 0) .firsts)) ⌝ }
+pub fn range_at(data: &[u32], tables_at: &Starts, c: Counts, t: usize, i: usize, j: usize) -> Range
+    requires { ⌜ TablesAt (now «data») (now «tables_at») c × ((t < tableCount) × (i < boxOf (sets c) (getD tableSets t 0) .firsts)) ⌝ }
     ensures { λ r. ⌜ ((y s : ℕ) → ranged r ≡ rangeOf t (read (now («data» .entry))) y i j s) ⌝ }
 {
     match t {
         4 => below(c.zones),
         5 => below(c.fuels),
-        8 => any_if(is_existing(data, at, c, i)),
-        9 => plant_year(is_existing(data, at, c, i), c.years),
-        10 => none_if(is_existing(data, at, c, i)),
+        8 => any_if(is_existing(data, tables_at, c, i)),
+        9 => plant_year(is_existing(data, tables_at, c, i), c.years),
+        10 => none_if(is_existing(data, tables_at, c, i)),
         29 => none_if(i == j),
         _ => fixed_range(t),
     }

@@ -1,5 +1,6 @@
 // The index sets by their codes, and the fixed table of the twenty families.
 use model::Counts;
+use model::FAMILY_COUNT;
 use model::Family;
 use model::Shape;
 use sums::Box;
@@ -7,11 +8,11 @@ ghost use mathlib.Core.Path.{_≡_};
 ghost use Prim.Native.Nat.{_*_, _≤_, _<_};
 ghost use Rattle.sums.specs.Index.{boxOf, volume, inside};
 ghost use Rattle.model.specs.Counts.{sets, slicesOf};
-ghost use Rattle.model.specs.Families.{familyOf, shapeOf};
+ghost use Rattle.model.specs.Families.{familyOf, shapeOf, familyCount};
 ghost use Rattle.tables.specs.Layout.{Counted, Small, Inside};
 
 // Equation number, index set and equality of each family, in document 01's order.
-const FAMILIES: [Family; 20] = [
+const FAMILIES: [Family; FAMILY_COUNT] = [
     Family { equation: 14, set: 0, equal: true },
     Family { equation: 15, set: 1, equal: false },
     Family { equation: 19, set: 0, equal: false },
@@ -35,7 +36,7 @@ const FAMILIES: [Family; 20] = [
 ];
 
 pub fn family_at(k: usize) -> Family
-    requires { ⌜ k < 20 ⌝ }
+    requires { ⌜ k < familyCount ⌝ }
     ensures { λ r. ⌜ r ≡ familyOf k ⌝ }
 {
     FAMILIES[k]
@@ -100,8 +101,8 @@ pub fn shape_of(c: Counts) -> Shape
     requires { ⌜ Counted c ⌝ }
     ensures { λ r. ⌜ r ≡ shapeOf c ⌝ }
 {
-    let mut sizes = [0; 20];
-    for k in 0..20 {
+    let mut sizes = [0; FAMILY_COUNT];
+    for k in 0..FAMILY_COUNT {
         let f = family_at(k);
         let b = box_of(c, f.set);
         sizes[k] = members_of(b);

@@ -2,18 +2,20 @@
 use crate::ranges::Range;
 use crate::ranges::in_range;
 use crate::ranges::range_at;
+use crate::starts::Starts;
 use crate::starts::table_box;
 use crate::starts::table_starts;
 use model::Counts;
 use model::Outcome;
 use model::Refusal;
+use model::TABLE_COUNT;
 ghost use mathlib.Core.Path.{_≡_};
 ghost use Prim.Native.Nat.{_≤_, _<_};
 ghost use lib.ListN.{length, getD};
 ghost use Rattle.sums.specs.Span.{fine, orElse};
 ghost use Rattle.model.specs.Data.{countsOf, mostCounts, read};
 ghost use Rattle.model.specs.Tests.{headFault, countsFault, lengthFault, entriesFault, dataFault};
-ghost use Rattle.tables.specs.Layout.{outcome, Laid};
+ghost use Rattle.tables.specs.Layout.{outcome, TablesAt};
 
 // The largest that each count may be.
 const MOST_COUNTS: [u32; 7] = [8, 32, 8, 4, 4, 24, 10];
@@ -66,8 +68,8 @@ fn test_length(data: &[u32]) -> Outcome
     requires { ⌜ (7 ≤ length (now «data»)) × (countsFault (now «data») ≡ fine) ⌝ }
     ensures { λ r. ⌜ r ≡ outcome (lengthFault (now («data» .entry))) ⌝ }
 {
-    let at = table_starts(counts_of(data));
-    let whole = at[42];
+    let tables_at = table_starts(counts_of(data));
+    let whole = tables_at[TABLE_COUNT];
     if data.len() != whole {
         return Outcome::Fails(Refusal::DataLength(whole));
     }
@@ -91,18 +93,18 @@ pub fn test_head(data: &[u32]) -> Outcome
 
 // Refusal 3: every entry in the order of the list, left at the first that is out of range.
 // The range is found before the slices, since none depends on the slice.
-pub fn test_entries(data: &[u32], at: &[usize; 43], c: Counts) -> Outcome
-    requires { ⌜ Laid (now «data») (now at) c ⌝ }
+pub fn test_entries(data: &[u32], tables_at: &Starts, c: Counts) -> Outcome
+    requires { ⌜ TablesAt (now «data») (now «tables_at») c ⌝ }
     ensures { λ r. ⌜ r ≡ outcome (entriesFault (read (now («data» .entry)))) ⌝ }
 {
     let mut place = 7;
     let mut answer = Outcome::Fine;
-    'walk: for t in 0..42 {
+    'walk: for t in 0..TABLE_COUNT {
         let b = table_box(c, t);
         for y in 0..b.years {
             for i in 0..b.firsts {
                 for j in 0..b.seconds {
-                    let r = range_at(data, at, c, t, i, j);
+                    let r = range_at(data, tables_at, c, t, i, j);
                     for s in 0..b.slices {
                         if !in_range(r, data[place]) {
                             answer = Outcome::Fails(Refusal::Entry(place));
@@ -127,6 +129,6 @@ pub fn test_data(data: &[u32]) -> Outcome
         Outcome::Fine => {}
     }
     let c = counts_of(data);
-    let at = table_starts(c);
-    test_entries(data, &at, c)
+    let tables_at = table_starts(c);
+    test_entries(data, &tables_at, c)
 }

@@ -7,6 +7,7 @@ use tables::entries::planned_by_link_slice;
 use tables::names::LOSS;
 use tables::names::TL;
 use tables::names::TRANS;
+use tables::starts::Starts;
 ghost use mathlib.Core.Path.{_≡_};
 ghost use mathlib.Core.Bool.{not};
 ghost use Prim.Native.Nat.{_*_, _-_, _≤_, _<_};
@@ -16,17 +17,17 @@ ghost use Rattle.sums.specs.Sum.{sum, on};
 ghost use Rattle.model.specs.Counts.{slicesOf};
 ghost use Rattle.model.specs.Data.{read, tl, loss};
 ghost use Rattle.model.specs.Columns.{trans};
-ghost use Rattle.tables.specs.Layout.{Counted, Laid, Planned, planEntry};
+ghost use Rattle.tables.specs.Layout.{Counted, TablesAt, ColumnsAt, planEntry};
 
 // Σ (1000 − Loss[u,z])·trans[u,z] over the other zones u: what zone z receives.
-pub fn received(data: &[u32], plan: &[u32], at: &[usize; 43], cat: &[usize; 43], c: Counts, y: usize, z: usize, s: usize) -> Sum
-    requires { ⌜ Laid (now «data») (now at) c × (Planned (now plan) (now cat) c × ((y < c .years) × ((z < c .zones) × (s < slicesOf c)))) ⌝ }
+pub fn received(data: &[u32], plan: &[u32], tables_at: &Starts, columns_at: &Starts, c: Counts, y: usize, z: usize, s: usize) -> Sum
+    requires { ⌜ TablesAt (now «data») (now «tables_at») c × (ColumnsAt (now plan) (now «columns_at») c × ((y < c .years) × ((z < c .zones) × (s < slicesOf c)))) ⌝ }
     ensures { λ r. ⌜ r ≡ cap (sum (c .zones) (λ u. on (not (eqb u z)) ((1000 - loss (read (now («data» .entry))) y u z) * planEntry c (now (plan .entry)) (trans y u z s)))) ⌝ }
 {
     let mut total = capped::zero();
     for u in 0..c.zones {
-        let kept = kept_of(by_link(data, at, c, LOSS, y, u, z));
-        let flow = planned_by_link_slice(plan, cat, c, TRANS, y, u, z, s);
+        let kept = kept_of(by_link(data, tables_at, c, LOSS, y, u, z));
+        let flow = planned_by_link_slice(plan, columns_at, c, TRANS, y, u, z, s);
         total = capped::add_product_if(u != z, total, kept, flow);
     }
     total
@@ -40,39 +41,39 @@ fn kept_of(lost: u64) -> u64
 }
 
 // 1000·Σ trans[u,z] over the other zones u: what is sent to zone z.
-pub fn arriving(plan: &[u32], cat: &[usize; 43], c: Counts, y: usize, z: usize, s: usize) -> Sum
-    requires { ⌜ Counted c × (Planned (now plan) (now cat) c × ((y < c .years) × ((z < c .zones) × (s < slicesOf c)))) ⌝ }
+pub fn arriving(plan: &[u32], columns_at: &Starts, c: Counts, y: usize, z: usize, s: usize) -> Sum
+    requires { ⌜ Counted c × (ColumnsAt (now plan) (now «columns_at») c × ((y < c .years) × ((z < c .zones) × (s < slicesOf c)))) ⌝ }
     ensures { λ r. ⌜ r ≡ cap (sum (c .zones) (λ u. on (not (eqb u z)) (1000 * planEntry c (now (plan .entry)) (trans y u z s)))) ⌝ }
 {
     let mut total = capped::zero();
     for u in 0..c.zones {
-        let flow = planned_by_link_slice(plan, cat, c, TRANS, y, u, z, s);
+        let flow = planned_by_link_slice(plan, columns_at, c, TRANS, y, u, z, s);
         total = capped::add_product_if(u != z, total, 1000, flow);
     }
     total
 }
 
 // 1000·Σ trans[z,u] over the other zones u: what zone z sends.
-pub fn sent(plan: &[u32], cat: &[usize; 43], c: Counts, y: usize, z: usize, s: usize) -> Sum
-    requires { ⌜ Counted c × (Planned (now plan) (now cat) c × ((y < c .years) × ((z < c .zones) × (s < slicesOf c)))) ⌝ }
+pub fn sent(plan: &[u32], columns_at: &Starts, c: Counts, y: usize, z: usize, s: usize) -> Sum
+    requires { ⌜ Counted c × (ColumnsAt (now plan) (now «columns_at») c × ((y < c .years) × ((z < c .zones) × (s < slicesOf c)))) ⌝ }
     ensures { λ r. ⌜ r ≡ cap (sum (c .zones) (λ u. on (not (eqb u z)) (1000 * planEntry c (now (plan .entry)) (trans y z u s)))) ⌝ }
 {
     let mut total = capped::zero();
     for u in 0..c.zones {
-        let flow = planned_by_link_slice(plan, cat, c, TRANS, y, z, u, s);
+        let flow = planned_by_link_slice(plan, columns_at, c, TRANS, y, z, u, s);
         total = capped::add_product_if(u != z, total, 1000, flow);
     }
     total
 }
 
 // Σ TL[u,z] over the other zones u, in season q.
-pub fn limits_into(data: &[u32], at: &[usize; 43], c: Counts, y: usize, z: usize, q: usize) -> u64
-    requires { ⌜ Laid (now «data») (now at) c × ((y < c .years) × ((z < c .zones) × (q < c .seasons))) ⌝ }
+pub fn limits_into(data: &[u32], tables_at: &Starts, c: Counts, y: usize, z: usize, q: usize) -> u64
+    requires { ⌜ TablesAt (now «data») (now «tables_at») c × ((y < c .years) × ((z < c .zones) × (q < c .seasons))) ⌝ }
     ensures { λ r. ⌜ (r ≡ sum (c .zones) (λ u. on (not (eqb u z)) (tl (read (now («data» .entry))) y u z q))) × (r ≤ 34359738368) ⌝ }
 {
     let mut total = 0;
     for u in 0..c.zones {
-        total = total + where_other(u, z, by_link_season(data, at, c, TL, y, u, z, q));
+        total = total + where_other(u, z, by_link_season(data, tables_at, c, TL, y, u, z, q));
     }
     total
 }
@@ -85,25 +86,25 @@ fn where_other(u: usize, z: usize, limit: u64) -> u64
 }
 
 // Σ TL[u,z] over the other zones u and all seasons.
-pub fn limits_into_all_seasons(data: &[u32], at: &[usize; 43], c: Counts, y: usize, z: usize) -> u64
-    requires { ⌜ Laid (now «data») (now at) c × ((y < c .years) × (z < c .zones)) ⌝ }
+pub fn limits_into_all_seasons(data: &[u32], tables_at: &Starts, c: Counts, y: usize, z: usize) -> u64
+    requires { ⌜ TablesAt (now «data») (now «tables_at») c × ((y < c .years) × (z < c .zones)) ⌝ }
     ensures { λ r. ⌜ (r ≡ sum (c .zones) (λ u. on (not (eqb u z)) (sum (c .seasons) (λ q. tl (read (now («data» .entry))) y u z q)))) × (r ≤ 137438953472) ⌝ }
 {
     let mut total = 0;
     for u in 0..c.zones {
-        total = total + where_other(u, z, seasons_limit(data, at, c, y, u, z));
+        total = total + where_other(u, z, seasons_limit(data, tables_at, c, y, u, z));
     }
     total
 }
 
 // Σ TL[u,z] over the seasons.
-fn seasons_limit(data: &[u32], at: &[usize; 43], c: Counts, y: usize, u: usize, z: usize) -> u64
-    requires { ⌜ Laid (now «data») (now at) c × ((y < c .years) × ((u < c .zones) × (z < c .zones))) ⌝ }
+fn seasons_limit(data: &[u32], tables_at: &Starts, c: Counts, y: usize, u: usize, z: usize) -> u64
+    requires { ⌜ TablesAt (now «data») (now «tables_at») c × ((y < c .years) × ((u < c .zones) × (z < c .zones))) ⌝ }
     ensures { λ r. ⌜ (r ≡ sum (c .seasons) (λ q. tl (read (now («data» .entry))) y u z q)) × (r ≤ 17179869184) ⌝ }
 {
     let mut total = 0;
     for q in 0..c.seasons {
-        total = total + by_link_season(data, at, c, TL, y, u, z, q);
+        total = total + by_link_season(data, tables_at, c, TL, y, u, z, q);
     }
     total
 }

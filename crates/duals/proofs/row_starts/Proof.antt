@@ -5,18 +5,18 @@ use lib.ListN.{length, getD, length-set}
 use borrow.Author.Needs.{needs}
 use Rattle.sums.specs.Sum.{sum}
 use Rattle.sums.specs.Index.{start}
-use Rattle.model.specs.Families.{rowBoxes}
+use Rattle.model.specs.Families.{rowBoxes, familyCount}
 use Rattle.tables.proofs.Laws.{stored}
 use Rattle.duals.proofs.Laws.{few-rows, start-next}
 use Rattle.duals.proofs.row_starts.Statement.{statement}
 use Rattle.duals.proofs.row_starts.Tie as tie
 
 abbrev Inv-loop : tie.InvT-loop
-Inv-loop shape rat₀ next₀ k₀ rat next k =
-    (k ≤ 20) × (length rat ≡ 21) × (next ≡ start (rowBoxes (shape .counts)) k) × (next ≤ k * 983040) × ((i : ℕ) → i < k + 1 → getD rat i 0 ≡ start (rowBoxes (shape .counts)) i)
+Inv-loop shape rat₀ next₀ k₀ rows-at next k =
+    (k ≤ familyCount) × (length rows-at ≡ familyCount + 1) × (next ≡ start (rowBoxes (shape .counts)) k) × (next ≤ k * 983040) × ((i : ℕ) → i < k + 1 → getD rows-at i 0 ≡ start (rowBoxes (shape .counts)) i)
 
 abbrev μ-loop : tie.MeasureT-loop
-μ-loop shape rat₀ next₀ k₀ rat next k = 20 - k
+μ-loop shape rat₀ next₀ k₀ rows-at next k = familyCount - k
 
 loop-holds : tie.Need-loop-holds Inv-loop μ-loop
 unfolding sum
@@ -31,14 +31,14 @@ element-copy-out-next c = search needs
 add-next : tie.Need-add-next Inv-loop μ-loop
 add-next c = record { fits = omega (arith, few-rows (c .before .before .before .pre) (c .before .loop-test .taken)) }
 
-add-rat : tie.Need-add-rat Inv-loop μ-loop
-add-rat c = search needs
+add-rows-at : tie.Need-add-rows-at Inv-loop μ-loop
+add-rows-at c = search needs
 
-mul-rat : tie.Need-mul-rat Inv-loop μ-loop
-mul-rat c = search needs
+mul-rows-at : tie.Need-mul-rows-at Inv-loop μ-loop
+mul-rows-at c = search needs
 
-array-write-rat : tie.Need-array-write-rat Inv-loop μ-loop
-array-write-rat c = search needs
+array-write-rows-at : tie.Need-array-write-rows-at Inv-loop μ-loop
+array-write-rows-at c = search needs
 
 add-k : tie.Need-add-k Inv-loop μ-loop
 add-k c = search needs
@@ -53,7 +53,7 @@ loop-again c =
     let h = s .pre in
     let few = c .before .loop-test .taken in
     let e = start-next h few (l .inv .2) in
-    (search needs, simp length-set (l .inv .1), e, omega (arith, few-rows h few), stored (l .rat) (λ i. start (rowBoxes (s .args .t1 .counts)) i) (omega arith) (l .inv .4) e)
+    (search needs, simp length-set (l .inv .1), e, omega (arith, few-rows h few), stored (l .rows-at) (λ i. start (rowBoxes (s .args .t1 .counts)) i) (omega arith) (l .inv .4) e)
 
 returns : tie.Need-returns Inv-loop μ-loop
 returns c =
@@ -70,9 +70,9 @@ row-starts-spec =
     mul-next
     element-copy-out-next
     add-next
-    add-rat
-    mul-rat
-    array-write-rat
+    add-rows-at
+    mul-rows-at
+    array-write-rows-at
     add-k
     loop-less
     loop-again

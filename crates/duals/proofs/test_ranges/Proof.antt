@@ -7,7 +7,7 @@ use lib.ListN.{length, getD}
 use Rattle.sums.specs.Sum.{sum}
 use Rattle.sums.specs.Index.{start}
 use Rattle.sums.proofs.Spans.{upto-stop}
-use Rattle.model.specs.Families.{rowBoxes}
+use Rattle.model.specs.Families.{rowBoxes, familyCount}
 use Rattle.model.specs.Tests.{unless}
 use Rattle.tables.specs.Layout.{outcome}
 use Rattle.tables.proofs.Walk.{Reached, begun, turned, ended}
@@ -28,10 +28,10 @@ abbrev μ-loop : tie.MeasureT-loop
 μ-loop ms shape row₀ answer₀ k equal i₀ i-end row answer i = getD (shape .sizes) k 0 - i
 
 abbrev Inv-walk : tie.InvT-walk
-Inv-walk ms shape row₀ answer₀ k₀ row answer k = Reached (familyFault ms (shape .counts)) (λ n. start (rowBoxes (shape .counts)) n) k 20 row answer
+Inv-walk ms shape row₀ answer₀ k₀ row answer k = Reached (familyFault ms (shape .counts)) (λ n. start (rowBoxes (shape .counts)) n) k familyCount row answer
 
 abbrev μ-walk : tie.MeasureT-walk
-μ-walk ms shape row₀ answer₀ k₀ row answer k = 20 - k
+μ-walk ms shape row₀ answer₀ k₀ row answer k = familyCount - k
 
 -- the row under test is one of the rows
 below :

@@ -1,7 +1,8 @@
 use mathlib.Core.Path.{_∙_}
 use native.Mathlib.Omega.{arith}
-use Rattle.tables.proofs.Passed.{passed-long, sound-head, passed-laid}
-use Rattle.epm.proofs.Laws.{answered, data-refused, passes, counts-sound, counts-read, columns-end, plan-refused, plan-passed, plan-whole, plan-laid}
+use Rattle.model.specs.Columns.{kindCount}
+use Rattle.tables.proofs.Passed.{passed-long, sound-head, passed-tables}
+use Rattle.epm.proofs.Laws.{answered, data-refused, passes, counts-sound, counts-read, columns-end, plan-refused, plan-passed, plan-whole, plan-columns}
 use borrow.Author.Needs.{needs}
 use Rattle.epm.proofs.check.Statement.{statement}
 use Rattle.epm.proofs.check.Tie as tie
@@ -43,7 +44,7 @@ returns-2 c =
     let k = c .before .before .before .before .before .before in
     let sound = passes (k .before .before .before .test-data .ensures) (k .before .enum-told .given .1) in
     let counts = k .counts-of .ensures in
-    let columns = columns-end _ counts (c .before .before .before .before .column-starts .ensures .1 10 (omega arith)) in
+    let columns = columns-end _ counts (c .before .before .before .before .column-starts .ensures .1 kindCount (omega arith)) in
     answered (plan-refused _ _ _ sound columns (c .before .before .before .test-plan .ensures) (c .before .r2 .given .1))
 
 enum-told-2 : tie.Need-enum-told-2
@@ -54,16 +55,16 @@ price-requires c κs =
     let k = c .before .before .before .before .before .before .before in
     let sound = passes (k .before .before .before .test-data .ensures) (k .before .enum-told .given .1) in
     let counts = k .counts-of .ensures in
-    let columns = columns-end (c .before .before .before .before .before .before .before .before .before .before .before .before .before .args .«data» .now) counts (c .before .before .before .before .before .column-starts .ensures .1 10 (omega arith)) in
+    let columns = columns-end (c .before .before .before .before .before .before .before .before .before .before .before .before .before .args .«data» .now) counts (c .before .before .before .before .before .column-starts .ensures .1 kindCount (omega arith)) in
     let whole = plan-whole _ _ _ (c .before .before .before .before .test-plan .ensures) (c .before .before .enum-told2 .given .1) in
-    (passed-laid _ (sound-head _ sound) _ counts (c .before .before .before .before .before .before .table-starts .ensures .1), (sound, plan-laid _ counts (whole ∙ columns) (c .before .before .before .before .before .column-starts .ensures .1)))
+    (passed-tables _ (sound-head _ sound) _ counts (c .before .before .before .before .before .before .table-starts .ensures .1), (sound, plan-columns _ counts (whole ∙ columns) (c .before .before .before .before .before .column-starts .ensures .1)))
 
 returns-3 : tie.Need-returns-3
 returns-3 c =
     let k = c .before .before .before .before .before .before .before .before in
     let sound = passes (k .before .before .before .test-data .ensures) (k .before .enum-told .given .1) in
     let counts = k .counts-of .ensures in
-    let columns = columns-end _ counts (c .before .before .before .before .before .before .column-starts .ensures .1 10 (omega arith)) in
+    let columns = columns-end _ counts (c .before .before .before .before .before .before .column-starts .ensures .1 kindCount (omega arith)) in
     answered (plan-passed _ _ _ sound columns (c .before .before .before .before .before .test-plan .ensures) (c .before .before .before .enum-told2 .given .1) (c .price .ensures ∙ rw (counts-read _ counts)))
 
 pub check-spec : {M : Type 1} → statement M

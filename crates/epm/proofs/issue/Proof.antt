@@ -1,7 +1,7 @@
 use mathlib.Core.Path.{_∙_}
 use Rattle.model.specs.Data.{read}
-use Rattle.tables.proofs.Passed.{passed-long, sound-head, sound-entries, passed-laid}
-use Rattle.epm.proofs.Laws.{counts-sound, counts-read, shaped, shape-counts, multipliers-refused, multipliers-whole, columns-refused, columns-passed, dualled}
+use Rattle.tables.proofs.Passed.{passed-long, sound-head, sound-entries, passed-tables}
+use Rattle.epm.proofs.Laws.{counts-sound, counts-read, shaped, shape-counts, multipliers-refused, multipliers-whole, columns-refused, columns-passed, rows-from}
 use borrow.Author.Needs.{needs}
 use Rattle.epm.proofs.issue.Statement.{statement}
 use Rattle.epm.proofs.issue.Tie as tie
@@ -41,9 +41,9 @@ test-columns-requires c κs =
     let counts = shape-counts (k .shape-of .ensures) ∙ k .before .counts-of .ensures in
     let tested = c .before .before .before .before .before .before .before .test-multipliers .ensures (read (a .«data» .now)) (counts-read (a .«data» .now) counts) in
     let passed = c .before .before .before .before .before .enum-told .given .1 in
-    let laid = passed-laid _ (sound-head _ sound) _ counts (c .before .before .before .table-starts .ensures .1) in
-    let whole = dualled (read (a .«data» .now)) (counts-read (a .«data» .now) counts) (multipliers-whole _ _ (a .scale) (a .cost) tested passed) (c .before .before .row-starts .ensures .1) in
-    record { laid = laid; sound = sound-entries _ sound; dualled = whole }
+    let tablesAt = passed-tables _ (sound-head _ sound) _ counts (c .before .before .before .table-starts .ensures .1) in
+    let whole = rows-from (read (a .«data» .now)) (counts-read (a .«data» .now) counts) (multipliers-whole _ _ (a .scale) (a .cost) tested passed) (c .before .before .row-starts .ensures .1) in
+    record { tablesAt = tablesAt; sound = sound-entries _ sound; rowsAt = whole }
 
 enum-known-r-2 : tie.Need-enum-known-r-2
 enum-known-r-2 c = search needs
@@ -69,9 +69,9 @@ gap-of-requires c κs =
     let counts = shape-counts (k .shape-of .ensures) ∙ k .before .counts-of .ensures in
     let tested = c .before .before .before .before .before .before .before .before .before .before .before .before .test-multipliers .ensures (read (a .«data» .now)) (counts-read (a .«data» .now) counts) in
     let passed = c .before .before .before .before .before .before .before .before .before .before .enum-told .given .1 in
-    let laid = passed-laid _ (sound-head _ sound) _ counts (c .before .before .before .before .before .before .before .before .table-starts .ensures .1) in
-    let whole = dualled (read (a .«data» .now)) (counts-read (a .«data» .now) counts) (multipliers-whole _ _ (a .scale) (a .cost) tested passed) (c .before .before .before .before .before .before .before .row-starts .ensures .1) in
-    (laid, (sound-entries _ sound, (whole, k .before .before .before .pre .1)))
+    let tablesAt = passed-tables _ (sound-head _ sound) _ counts (c .before .before .before .before .before .before .before .before .table-starts .ensures .1) in
+    let whole = rows-from (read (a .«data» .now)) (counts-read (a .«data» .now) counts) (multipliers-whole _ _ (a .scale) (a .cost) tested passed) (c .before .before .before .before .before .before .before .row-starts .ensures .1) in
+    (tablesAt, (sound-entries _ sound, (whole, k .before .before .before .pre .1)))
 
 returns-3 : tie.Need-returns-3
 returns-3 c =

@@ -8,7 +8,7 @@ use borrow.Author.Tests.{not-true, not-false}
 use Rattle.tables.proofs.Laws.{small}
 use Rattle.tables.proofs.Passed.{passed-long, sound-head}
 use Rattle.parts.proofs.Parts.{part-asked, part-is}
-use Rattle.epm.proofs.Laws.{counts-sound, counts-read, plan-laid, board-tested, board-room, board-refused, board-written, outputs-are, places-are, years-are, some-places}
+use Rattle.epm.proofs.Laws.{counts-sound, counts-read, plan-columns, board-tested, board-room, board-refused, board-written, outputs-are, places-are, years-are, some-places}
 use borrow.Author.Needs.{needs}
 use Rattle.epm.proofs.put_year.Statement.{statement}
 use Rattle.epm.proofs.put_year.Tie as tie
@@ -53,7 +53,7 @@ year-part-requires c κs =
     let few = counts-sound _ (a .pre .0) (k .counts-of .ensures) in
     let flag = not-false _ (c .before .if1 .left) in
     let room = board-room (a .args .year) (k .counts-of .result .years) (length (a .args .board .now)) (a .args .start) (k .counts-of .result .plants * c .before .before .before .before .slices-of .result) (sym (c .before .before .board-fits .ensures) ∙ flag) (some-places few n) in
-    part-asked few (plan-laid {plan = a .args .plan .now} {cat = c .before .before .before .before .before .column-starts .result} (a .args .«data» .now) (k .counts-of .ensures) (a .pre .1) (c .before .before .before .before .before .column-starts .ensures .1)) (room .0) (ap (λ (m : ℕ). k .counts-of .result .plants * m) n) 3 (omega arith) refl
+    part-asked few (plan-columns {plan = a .args .plan .now} {columns-at = c .before .before .before .before .before .column-starts .result} (a .args .«data» .now) (k .counts-of .ensures) (a .pre .1) (c .before .before .before .before .before .column-starts .ensures .1)) (room .0) (ap (λ (m : ℕ). k .counts-of .result .plants * m) n) 3 (omega arith) refl
 
 replace-requires : tie.Need-replace-requires
 replace-requires c κs =
@@ -65,9 +65,9 @@ replace-requires c κs =
     let few = counts-sound _ (a .pre .0) (k .counts-of .ensures) in
     let flag = not-false _ (c .before .before .if1 .left) in
     let room = board-room (a .args .year) (k .counts-of .result .years) (length (a .args .board .now)) (a .args .start) (k .counts-of .result .plants * c .before .before .before .before .before .slices-of .result) (sym (c .before .before .before .board-fits .ensures) ∙ flag) (some-places few n) in
-    let planned = plan-laid {plan = a .args .plan .now} {cat = c .before .before .before .before .before .before .column-starts .result} (a .args .«data» .now) (k .counts-of .ensures) (a .pre .1) (c .before .before .before .before .before .before .column-starts .ensures .1) in
+    let columnsAt = plan-columns {plan = a .args .plan .now} {columns-at = c .before .before .before .before .before .before .column-starts .result} (a .args .«data» .now) (k .counts-of .ensures) (a .pre .1) (c .before .before .before .before .before .before .column-starts .ensures .1) in
     let places = ap (λ (m : ℕ). k .counts-of .result .plants * m) n in
-    let part = part-is few planned (room .0) places 3 (omega arith) refl (c .year-part .ensures) in
+    let part = part-is few columnsAt (room .0) places 3 (omega arith) refl (c .year-part .ensures) in
     omega (arith, room .1, part .long, places)
 
 same-length : tie.Need-same-length

@@ -1,8 +1,8 @@
 use mathlib.Core.Path.{_∙_}
 use Rattle.model.specs.Data.{read}
 use Rattle.model.specs.Columns.{columnBoxes}
-use Rattle.tables.proofs.Passed.{passed-long, sound-head, sound-entries, sound-laid}
-use Rattle.epm.proofs.Laws.{counts-sound, counts-read, shaped, shape-counts, dualled}
+use Rattle.tables.proofs.Passed.{passed-long, sound-head, sound-entries, sound-tables}
+use Rattle.epm.proofs.Laws.{counts-sound, counts-read, shaped, shape-counts, rows-from}
 use Rattle.places.specs.Numbers.{indexOf}
 use Rattle.figures.proofs.Laws.{counted-alike, short-is}
 use Rattle.figures.proofs.column_figures.Statement.{statement}
@@ -25,8 +25,8 @@ priced-at-requires c κs =
     let a = c .before .before .before .before .before .before .before .before in
     let l = a .args .«data» .now in
     let counts = shape-counts (c .before .before .before .before .before .shape-of .ensures) ∙ c .before .before .before .before .before .before .counts-of .ensures in
-    let whole = dualled (read l) (counts-read l counts) (a .pre .1 .0) (c .before .before .row-starts .ensures .1) in
-    (record { laid = sound-laid l (a .pre .0) _ counts (c .before .before .before .table-starts .ensures .1); sound = sound-entries l (a .pre .0); dualled = whole },
+    let whole = rows-from (read l) (counts-read l counts) (a .pre .1 .0) (c .before .before .row-starts .ensures .1) in
+    (record { tablesAt = sound-tables l (a .pre .0) _ counts (c .before .before .before .table-starts .ensures .1); sound = sound-entries l (a .pre .0); rowsAt = whole },
     counted-alike columnBoxes (indexOf (a .args .p)) (counts-read l counts) (a .pre .1 .1))
 
 returns : tie.Need-returns

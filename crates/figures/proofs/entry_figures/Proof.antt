@@ -1,5 +1,5 @@
 use Rattle.model.specs.Data.{tableBoxes}
-use Rattle.tables.proofs.Passed.{passed-long, passed-counts, passed-laid}
+use Rattle.tables.proofs.Passed.{passed-long, passed-counts, passed-tables}
 use Rattle.epm.proofs.Laws.{counts-read}
 use Rattle.places.specs.Numbers.{indexOf}
 use Rattle.figures.proofs.Laws.{counted-alike, entry-inside, entry-in, entry-told}
@@ -19,7 +19,7 @@ range-at-requires c κs =
     let l = a .args .«data» .now in
     let counts = c .before .before .counts-of .ensures in
     let inside = entry-inside _ (counted-alike tableBoxes (indexOf (a .args .p)) (counts-read l counts) (a .pre .1 .0)) in
-    (passed-laid l (a .pre .0) _ counts (c .before .table-starts .ensures .1), (inside .0, inside .1 .first))
+    (passed-tables l (a .pre .0) _ counts (c .before .table-starts .ensures .1), (inside .0, inside .1 .first))
 
 wide-requires : tie.Need-wide-requires
 wide-requires c κs = search needs
@@ -30,7 +30,7 @@ wide-requires-2 c κs = search needs
 number-at-requires : tie.Need-number-at-requires
 number-at-requires c κs =
     let a = c .before .before .before .before .before .before .before in
-    entry-in (passed-laid (a .args .«data» .now) (a .pre .0) (c .before .before .before .before .table-starts .result) (c .before .before .before .before .before .counts-of .ensures) (c .before .before .before .before .table-starts .ensures .1)) (a .pre .1 .0) (a .pre .1 .1)
+    entry-in (passed-tables (a .args .«data» .now) (a .pre .0) (c .before .before .before .before .table-starts .result) (c .before .before .before .before .before .counts-of .ensures) (c .before .before .before .before .table-starts .ensures .1)) (a .pre .1 .0) (a .pre .1 .1)
 
 returns : tie.Need-returns
 returns c =

@@ -5,13 +5,13 @@ use Rattle.figures.proofs.priced_at.Statement.{statement}
 use Rattle.figures.proofs.priced_at.Tie as tie
 
 column-sums-requires : tie.Need-column-sums-requires
-column-sums-requires c κs = let p = c .before .pre in (p .0 .laid, (p .0 .sound, (p .0 .dualled, column-inside _ (p .1))))
+column-sums-requires c κs = let p = c .before .pre in (p .0 .tablesAt, (p .0 .sound, (p .0 .rowsAt, column-inside _ (p .1))))
 
 unit-price-requires : tie.Need-unit-price-requires
-unit-price-requires c κs = let p = c .before .before .pre in (p .0 .laid, (column-inside _ (p .1) .0, (column-year _ (p .1), column-inside _ (p .1) .1 .first)))
+unit-price-requires c κs = let p = c .before .before .pre in (p .0 .tablesAt, (column-inside _ (p .1) .0, (column-year _ (p .1), column-inside _ (p .1) .1 .first)))
 
 hours-of-requires : tie.Need-hours-of-requires
-hours-of-requires c κs = let p = c .before .before .before .pre in (p .0 .laid, (column-inside _ (p .1) .0, column-inside _ (p .1) .1 .slice))
+hours-of-requires c κs = let p = c .before .before .before .pre in (p .0 .tablesAt, (column-inside _ (p .1) .0, column-inside _ (p .1) .1 .slice))
 
 scale-requires : tie.Need-scale-requires
 scale-requires c κs = search needs

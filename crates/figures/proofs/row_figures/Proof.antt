@@ -1,6 +1,6 @@
 use Rattle.model.specs.Families.{rowBoxes}
-use Rattle.tables.proofs.Passed.{passed-long, sound-head, sound-entries, sound-laid}
-use Rattle.epm.proofs.Laws.{counts-sound, counts-read, plan-laid}
+use Rattle.tables.proofs.Passed.{passed-long, sound-head, sound-entries, sound-tables}
+use Rattle.epm.proofs.Laws.{counts-sound, counts-read, plan-columns}
 use Rattle.places.specs.Numbers.{indexOf}
 use Rattle.figures.proofs.Laws.{counted-alike, row-told}
 use borrow.Author.Needs.{needs}
@@ -27,16 +27,16 @@ fill-energies-requires c κs =
     let a = c .before .before .before .before .before .before .before .before .before .before in
     let l = a .args .«data» .now in
     let counts = c .before .before .before .before .before .before .before .counts-of .ensures in
-    (sound-laid l (a .pre .0) _ counts (c .before .before .before .before .before .before .table-starts .ensures .1), (plan-laid l counts (a .pre .1 .0) (c .before .before .before .before .before .column-starts .ensures .1), search needs))
+    (sound-tables l (a .pre .0) _ counts (c .before .before .before .before .before .before .table-starts .ensures .1), (plan-columns l counts (a .pre .1 .0) (c .before .before .before .before .before .column-starts .ensures .1), search needs))
 
 sides-at-requires : tie.Need-sides-at-requires
 sides-at-requires c κs =
     let a = c .before .before .before .before .before .before .before .before .before .before .before .before .before .before in
     let l = a .args .«data» .now in
     let counts = c .before .before .before .before .before .before .before .before .before .before .before .counts-of .ensures in
-    let laid = sound-laid l (a .pre .0) _ counts (c .before .before .before .before .before .before .before .before .before .before .table-starts .ensures .1) in
-    let planned = plan-laid l counts (a .pre .1 .0) (c .before .before .before .before .before .before .before .before .before .column-starts .ensures .1) in
-    ((laid, (sound-entries l (a .pre .0), (planned, c .before .before .before .fill-energies .ensures))), counted-alike rowBoxes (indexOf (a .args .p)) (counts-read l counts) (a .pre .1 .1))
+    let tablesAt = sound-tables l (a .pre .0) _ counts (c .before .before .before .before .before .before .before .before .before .before .table-starts .ensures .1) in
+    let columnsAt = plan-columns l counts (a .pre .1 .0) (c .before .before .before .before .before .before .before .before .before .column-starts .ensures .1) in
+    ((tablesAt, (sound-entries l (a .pre .0), (columnsAt, c .before .before .before .fill-energies .ensures))), counted-alike rowBoxes (indexOf (a .args .p)) (counts-read l counts) (a .pre .1 .1))
 
 told-sides-requires : tie.Need-told-sides-requires
 told-sides-requires c κs = search needs

@@ -2,7 +2,7 @@ use mathlib.Core.Path.{refl}
 use Prim.Native.Nat.{_-_}
 use Rattle.sums.specs.Index.{index, boxOf}
 use Rattle.model.specs.Data.{read}
-use Rattle.model.specs.Families.{rowBoxes}
+use Rattle.model.specs.Families.{rowBoxes, familyCount}
 use Rattle.gap.specs.Signs.{term⁺, term⁻, withTerm}
 use Rattle.gap.proofs.Laws.{Adding, ofSecond, ofFirst, ofYear, ofFamily, begin, add, turn, walked-sum, walked-inside, no-term⁺, no-term⁻, all-terms}
 use borrow.Author.Needs.{needs}
@@ -10,44 +10,44 @@ use Rattle.gap.proofs.constant_terms.Statement.{statement}
 use Rattle.gap.proofs.constant_terms.Tie as tie
 
 abbrev Inv-loop5 : tie.InvT-loop5
-Inv-loop5 «data» ms at rat c t₀ k b y i j s₀ y-end i-end j-end s-end t s =
+Inv-loop5 «data» ms tables-at rows-at c t₀ k b y i j s₀ y-end i-end j-end s-end t s =
     Adding (λ s. term⁺ (read «data») ms (index k y i j s)) (λ s. term⁻ (read «data») ms (index k y i j s)) (b .slices) t₀ s t
 
 abbrev μ-loop5 : tie.MeasureT-loop5
-μ-loop5 «data» ms at rat c t₀ k b y i j s₀ y-end i-end j-end s-end t s =
+μ-loop5 «data» ms tables-at rows-at c t₀ k b y i j s₀ y-end i-end j-end s-end t s =
     b .slices - s
 
 abbrev Inv-loop4 : tie.InvT-loop4
-Inv-loop4 «data» ms at rat c t₀ k b y i j₀ y-end i-end j-end t j =
+Inv-loop4 «data» ms tables-at rows-at c t₀ k b y i j₀ y-end i-end j-end t j =
     Adding (λ j. ofSecond (term⁺ (read «data») ms) b k y i j) (λ j. ofSecond (term⁻ (read «data») ms) b k y i j) (b .seconds) t₀ j t
 
 abbrev μ-loop4 : tie.MeasureT-loop4
-μ-loop4 «data» ms at rat c t₀ k b y i j₀ y-end i-end j-end t j =
+μ-loop4 «data» ms tables-at rows-at c t₀ k b y i j₀ y-end i-end j-end t j =
     b .seconds - j
 
 abbrev Inv-loop3 : tie.InvT-loop3
-Inv-loop3 «data» ms at rat c t₀ k b y i₀ y-end i-end t i =
+Inv-loop3 «data» ms tables-at rows-at c t₀ k b y i₀ y-end i-end t i =
     Adding (λ i. ofFirst (term⁺ (read «data») ms) b k y i) (λ i. ofFirst (term⁻ (read «data») ms) b k y i) (b .firsts) t₀ i t
 
 abbrev μ-loop3 : tie.MeasureT-loop3
-μ-loop3 «data» ms at rat c t₀ k b y i₀ y-end i-end t i =
+μ-loop3 «data» ms tables-at rows-at c t₀ k b y i₀ y-end i-end t i =
     b .firsts - i
 
 abbrev Inv-loop2 : tie.InvT-loop2
-Inv-loop2 «data» ms at rat c t₀ k b y₀ y-end t y =
+Inv-loop2 «data» ms tables-at rows-at c t₀ k b y₀ y-end t y =
     Adding (λ y. ofYear (term⁺ (read «data») ms) b k y) (λ y. ofYear (term⁻ (read «data») ms) b k y) (b .years) t₀ y t
 
 abbrev μ-loop2 : tie.MeasureT-loop2
-μ-loop2 «data» ms at rat c t₀ k b y₀ y-end t y =
+μ-loop2 «data» ms tables-at rows-at c t₀ k b y₀ y-end t y =
     b .years - y
 
 abbrev Inv-loop : tie.InvT-loop
-Inv-loop «data» ms at rat c t₀ k₀ t k =
+Inv-loop «data» ms tables-at rows-at c t₀ k₀ t k =
     Adding (λ k. ofFamily (term⁺ (read «data») ms) (boxOf (rowBoxes c) k) k) (λ k. ofFamily (term⁻ (read «data») ms) (boxOf (rowBoxes c) k) k) 20 t₀ k t
 
 abbrev μ-loop : tie.MeasureT-loop
-μ-loop «data» ms at rat c t₀ k₀ t k =
-    20 - k
+μ-loop «data» ms tables-at rows-at c t₀ k₀ t k =
+    familyCount - k
 
 -- every need takes the ten
 abbrev here :

@@ -12,10 +12,10 @@ use Rattle.prices.proofs.cap_cost.Statement.{statement}
 use Rattle.prices.proofs.cap_cost.Tie as tie
 
 abbrev Inv-loop : tie.InvT-loop
-Inv-loop «data» plan at cat c y share total₀ g₀ g-end total g = Summed (c .plants) (λ g. term (read «data») c (planEntry c plan) (cap y g)) g total
+Inv-loop «data» plan tables-at columns-at c y share total₀ g₀ g-end total g = Summed (c .plants) (λ g. term (read «data») c (planEntry c plan) (cap y g)) g total
 
 abbrev μ-loop : tie.MeasureT-loop
-μ-loop «data» plan at cat c y share total₀ g₀ g-end total g = c .plants - g
+μ-loop «data» plan tables-at columns-at c y share total₀ g₀ g-end total g = c .plants - g
 
 year-weight-requires : tie.Need-year-weight-requires Inv-loop μ-loop
 year-weight-requires c κs = search needs

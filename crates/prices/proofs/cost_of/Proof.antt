@@ -11,10 +11,10 @@ use Rattle.prices.proofs.cost_of.Statement.{statement}
 use Rattle.prices.proofs.cost_of.Tie as tie
 
 abbrev Inv-loop : tie.InvT-loop
-Inv-loop «data» plan at cat c total₀ y₀ y-end total y = Summed (c .years) (λ y. yearCost (read «data») c (planEntry c plan) y) y total
+Inv-loop «data» plan tables-at columns-at c total₀ y₀ y-end total y = Summed (c .years) (λ y. yearCost (read «data») c (planEntry c plan) y) y total
 
 abbrev μ-loop : tie.MeasureT-loop
-μ-loop «data» plan at cat c total₀ y₀ y-end total y = c .years - y
+μ-loop «data» plan tables-at columns-at c total₀ y₀ y-end total y = c .years - y
 
 zero-requires : tie.Need-zero-requires Inv-loop μ-loop
 zero-requires c κs = search needs

@@ -12,10 +12,10 @@ use Rattle.prices.proofs.firmshort_cost.Statement.{statement}
 use Rattle.prices.proofs.firmshort_cost.Tie as tie
 
 abbrev Inv-loop : tie.InvT-loop
-Inv-loop «data» plan at cat c y share price total₀ z₀ z-end total z = Summed (c .zones) (λ z. term (read «data») c (planEntry c plan) (firmshort y z)) z total
+Inv-loop «data» plan tables-at columns-at c y share price total₀ z₀ z-end total z = Summed (c .zones) (λ z. term (read «data») c (planEntry c plan) (firmshort y z)) z total
 
 abbrev μ-loop : tie.MeasureT-loop
-μ-loop «data» plan at cat c y share price total₀ z₀ z-end total z = c .zones - z
+μ-loop «data» plan tables-at columns-at c y share price total₀ z₀ z-end total z = c .zones - z
 
 year-weight-requires : tie.Need-year-weight-requires Inv-loop μ-loop
 year-weight-requires c κs = search needs

@@ -9,10 +9,10 @@ use Rattle.prices.proofs.hourly_cost.Statement.{statement}
 use Rattle.prices.proofs.hourly_cost.Tie as tie
 
 abbrev Inv-loop : tie.InvT-loop
-Inv-loop «data» plan at cat c t y firsts total₀ i₀ total i = Summed firsts (λ i. slicesCost (read «data») c (planEntry c plan) t y i) i total
+Inv-loop «data» plan tables-at columns-at c t y firsts total₀ i₀ total i = Summed firsts (λ i. slicesCost (read «data») c (planEntry c plan) t y i) i total
 
 abbrev μ-loop : tie.MeasureT-loop
-μ-loop «data» plan at cat c t y firsts total₀ i₀ total i = firsts - i
+μ-loop «data» plan tables-at columns-at c t y firsts total₀ i₀ total i = firsts - i
 
 firsts-of-requires : tie.Need-firsts-of-requires Inv-loop μ-loop
 firsts-of-requires c κs = search needs

@@ -9,10 +9,10 @@ use Rattle.prices.proofs.weighted_hours.Statement.{statement}
 use Rattle.prices.proofs.weighted_hours.Tie as tie
 
 abbrev Inv-loop : tie.InvT-loop
-Inv-loop «data» at c part total₀ s₀ s-end total s = Summed (length part) (λ s. duration (read «data») s * getD part s 0) s total
+Inv-loop «data» tables-at c part total₀ s₀ s-end total s = Summed (length part) (λ s. duration (read «data») s * getD part s 0) s total
 
 abbrev μ-loop : tie.MeasureT-loop
-μ-loop «data» at c part total₀ s₀ s-end total s = length part - s
+μ-loop «data» tables-at c part total₀ s₀ s-end total s = length part - s
 
 zero-requires : tie.Need-zero-requires Inv-loop μ-loop
 zero-requires c κs = search needs

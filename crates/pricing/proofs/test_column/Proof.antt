@@ -8,7 +8,7 @@ use Rattle.pricing.proofs.test_column.Statement.{statement}
 use Rattle.pricing.proofs.test_column.Tie as tie
 
 column-sums-requires : tie.Need-column-sums-requires
-column-sums-requires c κs = let p = c .before .pre in (p .0 .laid, (p .0 .sound, (p .0 .dualled, (p .1 .0, p .1 .1 .0))))
+column-sums-requires c κs = let p = c .before .pre in (p .0 .tablesAt, (p .0 .sound, (p .0 .rowsAt, (p .1 .0, p .1 .1 .0))))
 
 hours-of-requires : tie.Need-hours-of-requires
 hours-of-requires c κs = search needs
@@ -24,7 +24,7 @@ returns c =
     let a = c .before .before .before .before .before .args in
     let p = c .before .before .before .before .before .pre in
     c .verdict .ensures ∙ verdict-is _ _ (a .k) (a .y) (a .i) (a .j) (a .s) (p .1 .0) (c .before .before .before .column-sums .ensures) (p .1 .1 .1 .0) (c .before .before .hours-of .ensures) (c .before .scale .ensures)
-    (p .1 .1 .1 .1 ∙ ap (λ (c : Counts). number (columnBoxes c) (index (a .k) (a .y) (a .i) (a .j) (a .s))) (sym (p .0 .laid .counts)))
+    (p .1 .1 .1 .1 ∙ ap (λ (c : Counts). number (columnBoxes c) (index (a .k) (a .y) (a .i) (a .j) (a .s))) (sym (p .0 .tablesAt .counts)))
 
 pub test-column-spec : {M : Type 1} → statement M
 test-column-spec =

@@ -3,7 +3,7 @@ use Prim.Native.Nat.{_*_, _-_}
 use native.Mathlib.Omega.{arith}
 use Rattle.sums.specs.Index.{index}
 use Rattle.model.specs.Data.{read}
-use Rattle.model.specs.Columns.{columnBoxes}
+use Rattle.model.specs.Columns.{columnBoxes, kindCount}
 use Rattle.model.specs.Tests.{columnFault}
 use Rattle.tables.proofs.Steps.{Going, Walked, ofSecond, ofFirst, ofYear, yearMembers, none, more, turn, walked-none, walked-more, walked-all}
 use Rattle.tables.proofs.Steps.{member-number, member-below, stopped, outcome-fine, outcome-fails}
@@ -14,38 +14,38 @@ use Rattle.pricing.proofs.test_columns.Tie as tie
 
 -- Each loop's invariant says what its own level has passed, from the column where it began; a measure is the turns that are left.
 abbrev Inv-loop4 : tie.InvT-loop4
-Inv-loop4 «data» ms at rat c answer₀ column₀ k b y i unit j s₀ y-end i-end j-end s-end answer column s =
+Inv-loop4 «data» ms tables-at rows-at c answer₀ column₀ k b y i unit j s₀ y-end i-end j-end s-end answer column s =
     Going (λ s. columnFault (read «data») ms (index k y i j s)) (b .slices) 1 column₀ s column answer
 
 abbrev μ-loop4 : tie.MeasureT-loop4
-μ-loop4 «data» ms at rat c answer₀ column₀ k b y i unit j s₀ y-end i-end j-end s-end answer column s = b .slices - s
+μ-loop4 «data» ms tables-at rows-at c answer₀ column₀ k b y i unit j s₀ y-end i-end j-end s-end answer column s = b .slices - s
 
 abbrev Inv-loop3 : tie.InvT-loop3
-Inv-loop3 «data» ms at rat c answer₀ column₀ k b y i unit j₀ y-end i-end j-end answer column j =
+Inv-loop3 «data» ms tables-at rows-at c answer₀ column₀ k b y i unit j₀ y-end i-end j-end answer column j =
     Going (λ j. ofSecond (columnFault (read «data») ms) b k y i j) (b .seconds) (b .slices) column₀ j column answer
 
 abbrev μ-loop3 : tie.MeasureT-loop3
-μ-loop3 «data» ms at rat c answer₀ column₀ k b y i unit j₀ y-end i-end j-end answer column j = b .seconds - j
+μ-loop3 «data» ms tables-at rows-at c answer₀ column₀ k b y i unit j₀ y-end i-end j-end answer column j = b .seconds - j
 
 abbrev Inv-loop2 : tie.InvT-loop2
-Inv-loop2 «data» ms at rat c answer₀ column₀ k b y i₀ y-end i-end answer column i =
+Inv-loop2 «data» ms tables-at rows-at c answer₀ column₀ k b y i₀ y-end i-end answer column i =
     Going (λ i. ofFirst (columnFault (read «data») ms) b k y i) (b .firsts) (b .seconds * b .slices) column₀ i column answer
 
 abbrev μ-loop2 : tie.MeasureT-loop2
-μ-loop2 «data» ms at rat c answer₀ column₀ k b y i₀ y-end i-end answer column i = b .firsts - i
+μ-loop2 «data» ms tables-at rows-at c answer₀ column₀ k b y i₀ y-end i-end answer column i = b .firsts - i
 
 abbrev Inv-loop : tie.InvT-loop
-Inv-loop «data» ms at rat c answer₀ column₀ k b y₀ y-end answer column y =
+Inv-loop «data» ms tables-at rows-at c answer₀ column₀ k b y₀ y-end answer column y =
     Going (λ y. ofYear (columnFault (read «data») ms) b k y) (b .years) (yearMembers b) column₀ y column answer
 
 abbrev μ-loop : tie.MeasureT-loop
-μ-loop «data» ms at rat c answer₀ column₀ k b y₀ y-end answer column y = b .years - y
+μ-loop «data» ms tables-at rows-at c answer₀ column₀ k b y₀ y-end answer column y = b .years - y
 
 abbrev Inv-walk : tie.InvT-walk
-Inv-walk «data» ms at rat c answer₀ column₀ k₀ answer column k = Walked (columnFault (read «data») ms) (columnBoxes c) k column answer
+Inv-walk «data» ms tables-at rows-at c answer₀ column₀ k₀ answer column k = Walked (columnFault (read «data») ms) (columnBoxes c) k column answer
 
 abbrev μ-walk : tie.MeasureT-walk
-μ-walk «data» ms at rat c answer₀ column₀ k₀ answer column k = 10 - k
+μ-walk «data» ms tables-at rows-at c answer₀ column₀ k₀ answer column k = kindCount - k
 
 -- every need takes the ten
 abbrev here :
@@ -66,7 +66,7 @@ walk-holds : here tie.Need-walk-holds
 walk-holds c = walked-none refl refl
 
 column-box-requires : here tie.Need-column-box-requires
-column-box-requires c κs = (c .before .before .before .pre .laid .counted, c .walk-test .taken)
+column-box-requires c κs = (c .before .before .before .pre .tablesAt .counted, c .walk-test .taken)
 
 loop-holds : here tie.Need-loop-holds
 loop-holds c = none (c .before .before .walk .inv .accepted)
@@ -80,7 +80,7 @@ unit-price-requires c κs =
     let p = c4 .before .before .before .before .pre in
     let l = c4 .before .walk-test .taken in
     let b = c4 .column-box .ensures .0 in
-    (p .laid, (l, (year-below _ l b (c .before .before .loop-test .taken), first-below _ l b (c .loop2-test .taken))))
+    (p .tablesAt, (l, (year-below _ l b (c .before .before .loop-test .taken), first-below _ l b (c .loop2-test .taken))))
 
 loop3-holds : here tie.Need-loop3-holds
 loop3-holds c = none (c .before .before .loop2 .inv .accepted)
@@ -173,7 +173,7 @@ walk-again c =
     walked-more (c .before .before .before .before .walk .inv) (table-below _ l) (box-is _ l (b .0)) (b .1) (c .before .loop .inv) (c .loop-test .left)
 
 returns : here tie.Need-returns
-returns c = c .before .walk .inv .accepted ∙ answered _ _ (c .before .before .before .pre .laid .counts) (walked-all (c .before .walk .inv) (tables-end _ (c .walk-test .left)))
+returns c = c .before .walk .inv .accepted ∙ answered _ _ (c .before .before .before .pre .tablesAt .counts) (walked-all (c .before .walk .inv) (tables-end _ (c .walk-test .left)))
 
 returns-2 : here tie.Need-returns-2
 returns-2 c =
@@ -187,7 +187,7 @@ returns-2 c =
     let hs = c4 .loop4-test .taken in
     let b = box-is _ l (c12 .before .column-box .ensures .0) in
     let broken = outcome-fails _ (c .before .before .before .test-column .ensures) (c .before .r .given .1) in
-    answered _ _ (c12 .before .before .before .before .before .pre .laid .counts)
+    answered _ _ (c12 .before .before .before .before .before .pre .tablesAt .counts)
     (stopped (c12 .before .before .before .walk .inv) (table-below _ l) b (c12 .loop .inv) hy (c8 .before .before .loop2 .inv) hi (c4 .before .before .before .loop3 .inv) hj (c4 .before .loop4 .inv) hs broken)
 
 pub test-columns-spec : {M : Type 1} → statement M

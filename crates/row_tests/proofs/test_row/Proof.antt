@@ -18,7 +18,7 @@ returns c =
     let a = c .before .before .before .before .before .before .args in
     let p = c .before .before .before .before .before .before .pre in
     c .verdict .ensures ∙ verdict-is _ _ _ (index (a .k) (a .y) (a .i) (a .j) (a .s)) (c .before .row-sides .ensures) (p .1 .1 .1 .0)
-    (p .1 .1 .1 .1 ∙ ap (λ (c : Counts). number (rowBoxes c) (index (a .k) (a .y) (a .i) (a .j) (a .s))) (sym (p .0 .laid .counts)))
+    (p .1 .1 .1 .1 ∙ ap (λ (c : Counts). number (rowBoxes c) (index (a .k) (a .y) (a .i) (a .j) (a .s))) (sym (p .0 .tablesAt .counts)))
 
 pub test-row-spec : {M : Type 1} → statement M
 test-row-spec = tie.close (tie.spec row-sides-requires verdict-requires returns)

@@ -4,7 +4,7 @@ use native.Mathlib.Omega.{arith}
 use Rattle.sums.specs.Index.{index}
 use Rattle.model.specs.declared.Family.{Family}
 use Rattle.model.specs.Data.{read}
-use Rattle.model.specs.Families.{rowBoxes}
+use Rattle.model.specs.Families.{rowBoxes, familyCount}
 use Rattle.model.specs.Tests.{rowFault}
 use Rattle.tables.specs.Layout.{planEntry}
 use Rattle.tables.proofs.Laws.{small}
@@ -18,44 +18,44 @@ use Rattle.row_tests.proofs.test_rows.Tie as tie
 
 -- Each loop's invariant says what its own level has passed, from the row where it began; a measure is the turns that are left.
 abbrev Inv-loop4 : tie.InvT-loop4
-Inv-loop4 «data» plan energy at cat c scale places answer₀ row₀ k f b y outputs reserves i j s₀ y-end i-end j-end s-end answer row s =
+Inv-loop4 «data» plan energy tables-at columns-at c scale places answer₀ row₀ k f b y outputs reserves i j s₀ y-end i-end j-end s-end answer row s =
     Going (λ s. rowFault (read «data») scale (planEntry c plan) (index k y i j s)) (b .slices) 1 row₀ s row answer
 
 abbrev μ-loop4 : tie.MeasureT-loop4
-μ-loop4 «data» plan energy at cat c scale places answer₀ row₀ k f b y outputs reserves i j s₀ y-end i-end j-end s-end answer row s =
+μ-loop4 «data» plan energy tables-at columns-at c scale places answer₀ row₀ k f b y outputs reserves i j s₀ y-end i-end j-end s-end answer row s =
     b .slices - s
 
 abbrev Inv-loop3 : tie.InvT-loop3
-Inv-loop3 «data» plan energy at cat c scale places answer₀ row₀ k f b y outputs reserves i j₀ y-end i-end j-end answer row j =
+Inv-loop3 «data» plan energy tables-at columns-at c scale places answer₀ row₀ k f b y outputs reserves i j₀ y-end i-end j-end answer row j =
     Going (λ j. ofSecond (rowFault (read «data») scale (planEntry c plan)) b k y i j) (b .seconds) (b .slices) row₀ j row answer
 
 abbrev μ-loop3 : tie.MeasureT-loop3
-μ-loop3 «data» plan energy at cat c scale places answer₀ row₀ k f b y outputs reserves i j₀ y-end i-end j-end answer row j =
+μ-loop3 «data» plan energy tables-at columns-at c scale places answer₀ row₀ k f b y outputs reserves i j₀ y-end i-end j-end answer row j =
     b .seconds - j
 
 abbrev Inv-loop2 : tie.InvT-loop2
-Inv-loop2 «data» plan energy at cat c scale places answer₀ row₀ k f b y outputs reserves i₀ y-end i-end answer row i =
+Inv-loop2 «data» plan energy tables-at columns-at c scale places answer₀ row₀ k f b y outputs reserves i₀ y-end i-end answer row i =
     Going (λ i. ofFirst (rowFault (read «data») scale (planEntry c plan)) b k y i) (b .firsts) (b .seconds * b .slices) row₀ i row answer
 
 abbrev μ-loop2 : tie.MeasureT-loop2
-μ-loop2 «data» plan energy at cat c scale places answer₀ row₀ k f b y outputs reserves i₀ y-end i-end answer row i =
+μ-loop2 «data» plan energy tables-at columns-at c scale places answer₀ row₀ k f b y outputs reserves i₀ y-end i-end answer row i =
     b .firsts - i
 
 abbrev Inv-loop : tie.InvT-loop
-Inv-loop «data» plan energy at cat c scale places answer₀ row₀ k f b y₀ y-end answer row y =
+Inv-loop «data» plan energy tables-at columns-at c scale places answer₀ row₀ k f b y₀ y-end answer row y =
     Going (λ y. ofYear (rowFault (read «data») scale (planEntry c plan)) b k y) (b .years) (yearMembers b) row₀ y row answer
 
 abbrev μ-loop : tie.MeasureT-loop
-μ-loop «data» plan energy at cat c scale places answer₀ row₀ k f b y₀ y-end answer row y =
+μ-loop «data» plan energy tables-at columns-at c scale places answer₀ row₀ k f b y₀ y-end answer row y =
     b .years - y
 
 abbrev Inv-walk : tie.InvT-walk
-Inv-walk «data» plan energy at cat c scale places answer₀ row₀ k₀ answer row k =
+Inv-walk «data» plan energy tables-at columns-at c scale places answer₀ row₀ k₀ answer row k =
     Walked (rowFault (read «data») scale (planEntry c plan)) (rowBoxes c) k row answer
 
 abbrev μ-walk : tie.MeasureT-walk
-μ-walk «data» plan energy at cat c scale places answer₀ row₀ k₀ answer row k =
-    20 - k
+μ-walk «data» plan energy tables-at columns-at c scale places answer₀ row₀ k₀ answer row k =
+    familyCount - k
 
 -- every need takes the ten
 abbrev here :

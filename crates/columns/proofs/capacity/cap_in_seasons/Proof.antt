@@ -8,10 +8,10 @@ use Rattle.columns.proofs.capacity.cap_in_seasons.Statement.{statement}
 use Rattle.columns.proofs.capacity.cap_in_seasons.Tie as tie
 
 abbrev Inv-loop : tie.InvT-loop
-Inv-loop «data» ms at rat c y g p₀ q₀ q-end p q = Walked c ms (c .seasons) (capInSeason⁺ (read «data») y g) (λ _. nothing) q p
+Inv-loop «data» ms tables-at rows-at c y g p₀ q₀ q-end p q = Walked c ms (c .seasons) (capInSeason⁺ (read «data») y g) (λ _. nothing) q p
 
 abbrev μ-loop : tie.MeasureT-loop
-μ-loop «data» ms at rat c y g p₀ q₀ q-end p q = c .seasons - q
+μ-loop «data» ms tables-at rows-at c y g p₀ q₀ q-end p q = c .seasons - q
 
 none-requires : tie.Need-none-requires Inv-loop μ-loop
 none-requires c κs = search needs

@@ -27,28 +27,28 @@ add-row-if-requires : tie.Need-add-row-if-requires
 add-row-if-requires c κs =
     let c4 = c .before .before .before .before in
     let p = c4 .before .before .before .pre in
-    λ _. row-at (p .0 .laid .counted) (p .0 .dualled) (omega arith) (p .1 .1 .0) (p .1 .1 .1 .0) (omega arith) (p .1 .1 .1 .1)
+    λ _. row-at (p .0 .tablesAt .counted) (p .0 .rowsAt) (omega arith) (p .1 .1 .0) (p .1 .1 .1 .0) (omega arith) (p .1 .1 .1 .1)
 
 add-row-if-requires-2 : tie.Need-add-row-if-requires-2
 add-row-if-requires-2 c κs =
     let c4 = c .before .before .before .before in
     let c8 = c4 .before .before .before .before in
     let p = c8 .pre in
-    λ _. row-at (p .0 .laid .counted) (p .0 .dualled) (omega arith) (p .1 .1 .0) (p .1 .1 .1 .0) (omega arith) (p .1 .1 .1 .1)
+    λ _. row-at (p .0 .tablesAt .counted) (p .0 .rowsAt) (omega arith) (p .1 .1 .0) (p .1 .1 .1 .0) (omega arith) (p .1 .1 .1 .1)
 
 add-row-if-requires-3 : tie.Need-add-row-if-requires-3
 add-row-if-requires-3 c κs =
     let c4 = c .before .before .before .before in
     let c8 = c4 .before .before .before .before in
     let p = c8 .before .pre in
-    λ _. row-at (p .0 .laid .counted) (p .0 .dualled) (omega arith) (p .1 .1 .0) (p .1 .1 .1 .0) (omega arith) (p .1 .1 .1 .1)
+    λ _. row-at (p .0 .tablesAt .counted) (p .0 .rowsAt) (omega arith) (p .1 .1 .0) (p .1 .1 .1 .0) (omega arith) (p .1 .1 .1 .1)
 
 take-row-if-requires : tie.Need-take-row-if-requires
 take-row-if-requires c κs =
     let c4 = c .before .before .before .before in
     let c8 = c4 .before .before .before .before in
     let p = c8 .before .before .pre in
-    λ _. row-at (p .0 .laid .counted) (p .0 .dualled) (omega arith) (p .1 .1 .0) (p .1 .1 .1 .0) (omega arith) (p .1 .1 .1 .1)
+    λ _. row-at (p .0 .tablesAt .counted) (p .0 .rowsAt) (omega arith) (p .1 .1 .0) (p .1 .1 .1 .0) (omega arith) (p .1 .1 .1 .1)
 
 returns : tie.Need-returns
 unfolding capInSlice⁺ capInSlice⁻ ratesOf
@@ -64,7 +64,7 @@ returns c =
     let t5 = add-priced-if t4 _ (c .before .add-row-if3 .ensures) in
     let t6 = take-priced-if t5 _ (c .take-row-if .ensures) in
     priced-as t6 _ _
-    (λ m. rw (p .0 .laid .counts, p .1 .0, c8 .by-plant-slice .ensures .0, c8 .before .after-first-hour .ensures) (omega arith))
+    (λ m. rw (p .0 .tablesAt .counts, p .1 .0, c8 .by-plant-slice .ensures .0, c8 .before .after-first-hour .ensures) (omega arith))
     (λ m. rw (p .1 .0, c4 .before .before .before .on-min-load-day .ensures) (omega arith))
 
 pub cap-in-slice-spec : {M : Type 1} → statement M

@@ -9,10 +9,10 @@ use Rattle.columns.proofs.capacity.cap_in_slices.Statement.{statement}
 use Rattle.columns.proofs.capacity.cap_in_slices.Tie as tie
 
 abbrev Inv-loop : tie.InvT-loop
-Inv-loop «data» ms at rat c y g rates n p₀ s₀ p s = Walked c ms (slicesOf c) (capInSlice⁺ (read «data») y g) (capInSlice⁻ (read «data») y g) s p
+Inv-loop «data» ms tables-at rows-at c y g rates n p₀ s₀ p s = Walked c ms (slicesOf c) (capInSlice⁺ (read «data») y g) (capInSlice⁻ (read «data») y g) s p
 
 abbrev μ-loop : tie.MeasureT-loop
-μ-loop «data» ms at rat c y g rates n p₀ s₀ p s = slicesOf c - s
+μ-loop «data» ms tables-at rows-at c y g rates n p₀ s₀ p s = slicesOf c - s
 
 rates-of-requires : tie.Need-rates-of-requires Inv-loop μ-loop
 rates-of-requires c κs = search needs

@@ -24,7 +24,7 @@ returns : tie.Need-returns
 returns c =
     let s = c .before .before .before .before .before .before in
     let a = s .args in
-    let n = s .pre .0 .laid .counts in
+    let n = s .pre .0 .tablesAt .counts in
     let zone = c .before .before .before .before .gen-in-zone .ensures in
     let load = c .before .before .before .gen-in-load .ensures in
     let ramps = c .before .before .gen-in-ramps .ensures in

@@ -30,28 +30,28 @@ is-vre-requires : tie.Need-is-vre-requires
 is-vre-requires c κs =
     let c4 = c .before .before .before .before in
     let c8 = c4 .before .before .before .before in
-    let p = c8 .pre in (p .0 .laid, p .1 .1 .0)
+    let p = c8 .pre in (p .0 .tablesAt, p .1 .1 .0)
 
 take-row-if-requires : tie.Need-take-row-if-requires
 take-row-if-requires c κs =
     let c4 = c .before .before .before .before in
     let c8 = c4 .before .before .before .before in
     let p = c8 .before .pre in
-    λ _. row-at (p .0 .laid .counted) (p .0 .dualled) (omega arith) (p .1 .0) (c4 .before .before .before .zone-of .ensures .1) (omega arith) (p .1 .1 .1)
+    λ _. row-at (p .0 .tablesAt .counted) (p .0 .rowsAt) (omega arith) (p .1 .0) (c4 .before .before .before .zone-of .ensures .1) (omega arith) (p .1 .1 .1)
 
 take-row-requires : tie.Need-take-row-requires
 take-row-requires c κs =
     let c4 = c .before .before .before .before in
     let c8 = c4 .before .before .before .before in
     let p = c8 .before .before .pre in
-    row-at (p .0 .laid .counted) (p .0 .dualled) (omega arith) (p .1 .0) (c8 .zone-of .ensures .1) (c4 .before .before .before .fuel-of .ensures .1) (omega arith)
+    row-at (p .0 .tablesAt .counted) (p .0 .rowsAt) (omega arith) (p .1 .0) (c8 .zone-of .ensures .1) (c4 .before .before .before .fuel-of .ensures .1) (omega arith)
 
 take-row-requires-2 : tie.Need-take-row-requires-2
 take-row-requires-2 c κs =
     let c4 = c .before .before .before .before in
     let c8 = c4 .before .before .before .before in
     let p = c8 .before .before .before .pre in
-    row-at (p .0 .laid .counted) (p .0 .dualled) (omega arith) (p .1 .0) (c8 .before .zone-of .ensures .1) (omega arith) (omega arith)
+    row-at (p .0 .tablesAt .counted) (p .0 .rowsAt) (omega arith) (p .1 .0) (c8 .before .zone-of .ensures .1) (omega arith) (omega arith)
 
 take-row-requires-3 : tie.Need-take-row-requires-3
 take-row-requires-3 c κs =
@@ -59,7 +59,7 @@ take-row-requires-3 c κs =
     let c8 = c4 .before .before .before .before in
     let c12 = c8 .before .before .before .before in
     let p = c12 .pre in
-    row-at (p .0 .laid .counted) (p .0 .dualled) (omega arith) (p .1 .0) (omega arith) (omega arith) (omega arith)
+    row-at (p .0 .tablesAt .counted) (p .0 .rowsAt) (omega arith) (p .1 .0) (omega arith) (omega arith) (omega arith)
 
 returns : tie.Need-returns
 unfolding genInZone⁺ genInZone⁻

@@ -24,7 +24,7 @@ take-row-if-requires-2 : tie.Need-take-row-if-requires-2
 take-row-if-requires-2 c κs =
     let c4 = c .before .before .before .before in
     let p = c4 .before .before .pre in
-    λ _. row-at (p .0 .laid .counted) (p .0 .dualled) (omega arith) (p .1 .0) (p .1 .1 .1 .0) (omega arith) (p .1 .1 .1 .1)
+    λ _. row-at (p .0 .tablesAt .counted) (p .0 .rowsAt) (omega arith) (p .1 .0) (p .1 .1 .1 .0) (omega arith) (p .1 .1 .1 .1)
 
 returns : tie.Need-returns
 unfolding transIn⁺ transIn⁻

@@ -21,10 +21,10 @@ abbrev emittedBy : List ℕ → Counts → List (List ℕ) → ℕ → ℕ → S
 emittedBy «data» c energy y g = yearEnergy c energy (emission (read «data») g) y g
 
 abbrev Inv-loop : tie.InvT-loop
-Inv-loop «data» at c energy y z total₀ g₀ g-end total g = (g ≤ c .plants) × (total ≡ allIf g (lies «data» z) (emittedBy «data» c energy y))
+Inv-loop «data» tables-at c energy y z total₀ g₀ g-end total g = (g ≤ c .plants) × (total ≡ allIf g (lies «data» z) (emittedBy «data» c energy y))
 
 abbrev μ-loop : tie.MeasureT-loop
-μ-loop «data» at c energy y z total₀ g₀ g-end total g = c .plants - g
+μ-loop «data» tables-at c energy y z total₀ g₀ g-end total g = c .plants - g
 
 zero-requires : tie.Need-zero-requires Inv-loop μ-loop
 zero-requires c κs = search needs

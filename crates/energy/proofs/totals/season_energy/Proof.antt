@@ -12,10 +12,10 @@ use Rattle.energy.proofs.totals.season_energy.Statement.{statement}
 use Rattle.energy.proofs.totals.season_energy.Tie as tie
 
 abbrev Inv-loop : tie.InvT-loop
-Inv-loop «data» outputs at c g q p from total₀ i₀ total i = (total ≡ cap (sum i (λ j. duration (read «data») (from + j) * getD outputs (g * slicesOf c + (from + j)) 0))) × (i ≤ p) × (p ≤ 96) × (from ≤ 288)
+Inv-loop «data» outputs tables-at c g q p from total₀ i₀ total i = (total ≡ cap (sum i (λ j. duration (read «data») (from + j) * getD outputs (g * slicesOf c + (from + j)) 0))) × (i ≤ p) × (p ≤ 96) × (from ≤ 288)
 
 abbrev μ-loop : tie.MeasureT-loop
-μ-loop «data» outputs at c g q p from total₀ i₀ total i = p - i
+μ-loop «data» outputs tables-at c g q p from total₀ i₀ total i = p - i
 
 mul-p : tie.Need-mul-p Inv-loop μ-loop
 mul-p c = let p = c .before .before .before .pre in omega (arith, few-season-slices (p .0 .counted) (p .1 .1 .1))

@@ -36,7 +36,7 @@ returns c =
     let c8 = c4 .before .before .before .before in
     let p = c8 .before .before .before .pre in
     let D = read (c8 .before .before .before .args .«data» .now) in
-    let n = p .0 .laid .counts in
+    let n = p .0 .tablesAt .counts in
     plain _ _ _
     (product3-is (c .before .before .add-product3 .ensures) (c4 .before .zero .ensures) (c4 .before .before .by-plant-season .ensures .0)
     (c4 .season-hours .ensures .0 ∙ season-is D _ (λ s. duration D s) n refl) (c .before .before .before .planned-by-year-plant .ensures .0))

@@ -23,7 +23,7 @@ unfolding sidesOf
 returns c =
     let c4 = c .before .before .before .before in
     let c8 = c4 .before .before .before .before in
-    rw (c8 .before .pre .0 .laid .counts, ← c4 .season-of .ensures .0, ← c .before .before .before .day-of .ensures .0, flag-off 1 (c .before .before .by-day .ensures .0) (c .before .if1 .taken))
+    rw (c8 .before .pre .0 .tablesAt .counts, ← c4 .season-of .ensures .0, ← c .before .before .before .day-of .ensures .0, flag-off 1 (c .before .before .by-day .ensures .0) (c .before .if1 .taken))
     (no-terms _ (c .empty .ensures))
 
 part-at-requires : tie.Need-part-at-requires
@@ -48,7 +48,7 @@ returns-2 c =
     let c8 = c4 .before .before .before .before in
     let c12 = c8 .before .before .before .before in
     let p = c12 .before .pre in
-    rw (p .0 .laid .counts, ← c8 .season-of .ensures .0, ← c4 .before .before .before .day-of .ensures .0, flag-on 1 (c4 .before .before .by-day .ensures .0) (c4 .before .if1 .left))
+    rw (p .0 .tablesAt .counts, ← c8 .season-of .ensures .0, ← c4 .before .before .before .day-of .ensures .0, flag-on 1 (c4 .before .before .by-day .ensures .0) (c4 .before .if1 .left))
     (plain _ _ _ (product-is (c .before .before .before .product .ensures) refl (c4 .part-at .ensures .0 ∙ p .0 .outputs .is _ _ (p .1 .1 .0) (p .1 .1 .1)))
     (product-is (c .product2 .ensures) (c .before .before .by-plant .ensures .0) (c .before .planned-by-year-plant .ensures .0)))
 

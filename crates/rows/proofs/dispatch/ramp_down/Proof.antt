@@ -15,7 +15,7 @@ empty-requires c κs = search needs
 returns : tie.Need-returns
 unfolding sidesOf
 returns c =
-    rw (c .before .before .before .before .before .before .before .pre .0 .laid .counts, first-hour _ (c .before .before .first-hour .ensures) (c .before .if1 .taken)) (no-terms _ (c .empty .ensures))
+    rw (c .before .before .before .before .before .before .before .pre .0 .tablesAt .counts, first-hour _ (c .before .before .first-hour .ensures) (c .before .if1 .taken)) (no-terms _ (c .empty .ensures))
 
 by-plant-requires : tie.Need-by-plant-requires
 by-plant-requires c κs = search needs
@@ -50,7 +50,7 @@ returns-2 c =
     let p = c12 .before .pre in
     let hg = p .1 .1 .0 in
     let hs = p .1 .1 .1 in
-    rw (p .0 .laid .counts, later-hour _ (c8 .first-hour .ensures) (c4 .before .before .before .if1 .left))
+    rw (p .0 .tablesAt .counts, later-hour _ (c8 .first-hour .ensures) (c4 .before .before .before .if1 .left))
     (plain _ _ _
     (plus-is _ (c .before .before .add-product .ensures)
     (product-is (c4 .product .ensures) (c4 .before .before .by-plant .ensures .0) (c4 .before .planned-by-year-plant .ensures .0)) refl (c .before .before .before .part-at .ensures .0 ∙ p .0 .outputs .is _ _ hg hs))

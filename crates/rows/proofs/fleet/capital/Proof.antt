@@ -21,7 +21,7 @@ returns : tie.Need-returns
 unfolding sidesOf constantOf
 returns c =
     let c4 = c .before .before .before .before in
-    let n = c4 .before .before .before .before .pre .laid .counts in
+    let n = c4 .before .before .before .before .pre .tablesAt .counts in
     rw n (constant _ _ _ (c .with-constant .ensures) (c .before .capital-constant .ensures) (c .before .before .before .zero .ensures) (c .before .before .capital-sum .ensures))
 
 pub capital-spec : {M : Type 1} → statement M

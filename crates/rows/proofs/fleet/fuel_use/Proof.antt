@@ -33,7 +33,7 @@ returns c =
     let c8 = c4 .before .before .before .before in
     let p = c8 .before .before .pre in
     constant _ _ _ (c .with-constant .ensures) (c .before .fuel-use-constant .ensures) (c4 .before .zero .ensures)
-    (c .before .before .burned .ensures ∙ rw (c4 .long .ensures, c .before .before .before .long2 .ensures) (fuel-energy (p .0 .energies) (p .0 .laid .counts) (p .1 .0) _ _))
+    (c .before .before .burned .ensures ∙ rw (c4 .long .ensures, c .before .before .before .long2 .ensures) (fuel-energy (p .0 .energies) (p .0 .tablesAt .counts) (p .1 .0) _ _))
 
 pub fuel-use-spec : {M : Type 1} → statement M
 fuel-use-spec =

@@ -34,7 +34,7 @@ returns-2 c =
     let c4 = c .before .before .before .before in
     let c8 = c4 .before .before .before .before in
     let f = flag-off 0 (c4 .before .by-plant .ensures .0) (c4 .if1 .left) in
-    rw (c8 .before .before .pre .0 .laid .counts, f)
+    rw (c8 .before .before .pre .0 .tablesAt .counts, f)
     (constant _ _ _ (c .with-constant .ensures) (rw f at (c .before .new-capacity-constant .ensures)) (c .before .before .before .zero .ensures) (c .before .before .build-sum .ensures))
 
 pub new-capacity-spec : {M : Type 1} → statement M

@@ -26,7 +26,7 @@ returns c =
     let c4 = c .before .before .before .before in
     let p = c4 .before .before .before .before .pre in
     constant _ _ _ (c .with-constant .ensures) (c .before .system-emission-constant .ensures) (c .before .before .before .zero .ensures)
-    (c .before .before .emitted .ensures ∙ system-energy (p .0 .energies) (p .0 .laid .counts) (p .1))
+    (c .before .before .emitted .ensures ∙ system-energy (p .0 .energies) (p .0 .tablesAt .counts) (p .1))
 
 pub system-emission-spec : {M : Type 1} → statement M
 system-emission-spec =

@@ -29,7 +29,7 @@ returns c =
     let c4 = c .before .before .before .before in
     let p = c4 .before .before .before .before .before .pre in
     constant _ _ _ (c .with-constant .ensures) (c .before .zone-emission-constant .ensures) (c4 .zero .ensures)
-    (c .before .before .emitted-in .ensures ∙ rw (c .before .before .before .long .ensures) (zone-energy (p .0 .energies) (p .0 .laid .counts) (p .1 .0) _))
+    (c .before .before .emitted-in .ensures ∙ rw (c .before .before .before .long .ensures) (zone-energy (p .0 .energies) (p .0 .tablesAt .counts) (p .1 .0) _))
 
 pub zone-emission-spec : {M : Type 1} → statement M
 zone-emission-spec =

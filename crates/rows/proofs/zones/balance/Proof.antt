@@ -36,8 +36,8 @@ planned-by-zone-slice-requires-2 : tie.Need-planned-by-zone-slice-requires-2
 planned-by-zone-slice-requires-2 c κs =
     let p = c .before .before .before .before .before .before .before .before .before .before .before .pre in
     record {
-      planned = p .0 .planned;
-      counted = p .0 .laid .counted;
+      columnsAt = p .0 .columnsAt;
+      counted = p .0 .tablesAt .counted;
       table = omega arith;
       set = refl;
       inside = zone-slice (p .1 .0) (p .1 .1 .0) (p .1 .1 .1);
@@ -47,7 +47,7 @@ add-product-requires-2 : tie.Need-add-product-requires-2
 add-product-requires-2 c κs = search needs
 
 balance-constant-requires : tie.Need-balance-constant-requires
-balance-constant-requires c κs = let p = c .before .before .before .before .before .before .before .before .before .before .before .before .before .pre in (p .0 .laid, (p .0 .sound, p .1))
+balance-constant-requires c κs = let p = c .before .before .before .before .before .before .before .before .before .before .before .before .before .pre in (p .0 .tablesAt, (p .0 .sound, p .1))
 
 with-constant-requires : tie.Need-with-constant-requires
 with-constant-requires c κs = search needs
@@ -61,7 +61,7 @@ returns c =
     let p = c12 .before .before .before .pre in
     let D = read (c12 .before .before .before .args .«data» .now) in
     let made = part-sum (p .0 .outputs) (p .1 .1 .1) (λ z g v. on (eqb (zone D g) z) (1000 * v)) (c8 .before .zone-sum .ensures) (c8 .before .before .long .ensures) in
-    rw (p .0 .laid .counts)
+    rw (p .0 .tablesAt .counts)
     (constant _ _ _ (c .with-constant .ensures) (c .before .balance-constant .ensures)
     (plus-is _ (c4 .before .add-product .ensures) (join-is _ _ (c4 .before .before .before .join .ensures) made (c8 .received .ensures)) refl (c4 .before .before .planned-by-zone-slice .ensures .0))
     (plus-is _ (c .before .before .add-product2 .ensures) (c4 .sent .ensures) refl (c .before .before .before .planned-by-zone-slice2 .ensures .0)))

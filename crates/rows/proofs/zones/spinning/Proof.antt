@@ -33,13 +33,13 @@ long-requires-2 c κs = search needs
 
 vre-sum-requires : tie.Need-vre-sum-requires
 vre-sum-requires c κs =
-    let p = c .before .before .before .before .before .before .before .before .before .before .before .pre in (p .0 .laid, (p .0 .outputs .long, p .1 .1 .1))
+    let p = c .before .before .before .before .before .before .before .before .before .before .before .pre in (p .0 .tablesAt, (p .0 .outputs .long, p .1 .1 .1))
 
 join-requires : tie.Need-join-requires
 join-requires c κs = search needs
 
 spinning-constant-requires : tie.Need-spinning-constant-requires
-spinning-constant-requires c κs = let p = c .before .before .before .before .before .before .before .before .before .before .before .before .before .pre in (p .0 .laid, p .1)
+spinning-constant-requires c κs = let p = c .before .before .before .before .before .before .before .before .before .before .before .before .before .pre in (p .0 .tablesAt, p .1)
 
 with-constant-requires : tie.Need-with-constant-requires
 with-constant-requires c κs = search needs
@@ -51,7 +51,7 @@ returns c =
     let c8 = c4 .before .before .before .before in
     let c12 = c8 .before .before .before .before in
     let p = c12 .before .before .before .pre in
-    let n = p .0 .laid .counts in
+    let n = p .0 .tablesAt .counts in
     let hs = p .1 .1 .1 in
     let D = read (c12 .before .before .before .args .«data» .now) in
     let held = part-sum (p .0 .reserves) hs (λ z g v. on (eqb (zone D g) z) (1000 * v)) (c8 .before .zone-sum .ensures) (c8 .before .before .long .ensures) in

@@ -25,7 +25,7 @@ returns : tie.Need-returns
 unfolding sidesOf constantOf
 returns c =
     let c4 = c .before .before .before .before in
-    let n = c4 .before .before .before .before .before .pre .0 .laid .counts in
+    let n = c4 .before .before .before .before .before .pre .0 .tablesAt .counts in
     rw n
     (constant _ _ _ (c .with-constant .ensures) (rw n at (c .before .transfer-constant .ensures)) (c .before .before .zero .ensures)
     (product-is (c .before .before .before .product .ensures) refl (c4 .planned-by-link-slice .ensures .0)))

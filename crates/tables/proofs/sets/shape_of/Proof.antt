@@ -5,16 +5,16 @@ use lib.ListN.{length, getD, length-set}
 use borrow.Author.Needs.{needs}
 use borrow.Author.Count.{below-none}
 use Rattle.sums.specs.Index.{boxOf, volume}
-use Rattle.model.specs.Families.{rowBoxes}
+use Rattle.model.specs.Families.{rowBoxes, familyCount}
 use Rattle.tables.proofs.Laws.{stored, size-is, shape-is}
 use Rattle.tables.proofs.sets.shape_of.Statement.{statement}
 use Rattle.tables.proofs.sets.shape_of.Tie as tie
 
 abbrev Inv-loop : tie.InvT-loop
-Inv-loop c sizes₀ k₀ sizes k = (k ≤ 20) × (length sizes ≡ 20) × ((i : ℕ) → i < k → getD sizes i 0 ≡ volume (boxOf (rowBoxes c) i))
+Inv-loop c sizes₀ k₀ sizes k = (k ≤ familyCount) × (length sizes ≡ familyCount) × ((i : ℕ) → i < k → getD sizes i 0 ≡ volume (boxOf (rowBoxes c) i))
 
 abbrev μ-loop : tie.MeasureT-loop
-μ-loop c sizes₀ k₀ sizes k = 20 - k
+μ-loop c sizes₀ k₀ sizes k = familyCount - k
 
 loop-holds : tie.Need-loop-holds Inv-loop μ-loop
 loop-holds c = (search needs, refl, below-none _)

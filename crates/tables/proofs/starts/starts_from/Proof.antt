@@ -3,19 +3,20 @@ use Prim.Native.Nat.{ℕ, _≤_, _<_, _-_, _+_, _*_}
 use native.Mathlib.Omega.{arith}
 use lib.ListN.{length, getD, length-set}
 use borrow.Author.Needs.{needs}
+use Rattle.model.specs.Data.{tableCount}
 use Rattle.tables.specs.Layout.{startFrom}
 use Rattle.tables.proofs.Laws.{stored, start-zero, start-more}
 use Rattle.tables.proofs.starts.starts_from.Statement.{statement}
 use Rattle.tables.proofs.starts.starts_from.Tie as tie
 
 abbrev Inv-loop : tie.InvT-loop
-Inv-loop c kinds from at₀ next₀ k₀ k-end at next k = (k ≤ length kinds) × (length at ≡ 43) × (next ≡ startFrom c kinds from k) × (next ≤ from + 983040 * k) × ((i : ℕ) → i < k + 1 → getD at i 0 ≡ startFrom c kinds from i)
+Inv-loop c kinds from starts₀ next₀ k₀ k-end starts next k = (k ≤ length kinds) × (length starts ≡ tableCount + 1) × (next ≡ startFrom c kinds from k) × (next ≤ from + 983040 * k) × ((i : ℕ) → i < k + 1 → getD starts i 0 ≡ startFrom c kinds from i)
 
 abbrev μ-loop : tie.MeasureT-loop
-μ-loop c kinds from at₀ next₀ k₀ k-end at next k = length kinds - k
+μ-loop c kinds from starts₀ next₀ k₀ k-end starts next k = length kinds - k
 
-array-write-at : tie.Need-array-write-at Inv-loop μ-loop
-array-write-at c = search needs
+array-write-starts : tie.Need-array-write-starts Inv-loop μ-loop
+array-write-starts c = search needs
 
 loop-holds : tie.Need-loop-holds Inv-loop μ-loop
 loop-holds c =
@@ -38,14 +39,14 @@ members-of-requires c κs = search needs
 add-next : tie.Need-add-next Inv-loop μ-loop
 add-next c = search needs
 
-add-at : tie.Need-add-at Inv-loop μ-loop
-add-at c = search needs
+add-starts : tie.Need-add-starts Inv-loop μ-loop
+add-starts c = search needs
 
-mul-at : tie.Need-mul-at Inv-loop μ-loop
-mul-at c = search needs
+mul-starts : tie.Need-mul-starts Inv-loop μ-loop
+mul-starts c = search needs
 
-array-write-at-2 : tie.Need-array-write-at-2 Inv-loop μ-loop
-array-write-at-2 c = search needs
+array-write-starts-2 : tie.Need-array-write-starts-2 Inv-loop μ-loop
+array-write-starts-2 c = search needs
 
 add-k : tie.Need-add-k Inv-loop μ-loop
 add-k c = search needs
@@ -62,7 +63,7 @@ loop-again c =
       simp length-set (l .loop .inv .1),
       e,
       omega (arith, c .members-of .ensures .1),
-      stored (l .loop .at) (λ i. startFrom (a .c) (a .kinds .now) (a .from) i) (search needs) (l .loop .inv .4) e,
+      stored (l .loop .starts) (λ i. startFrom (a .c) (a .kinds .now) (a .from) i) (search needs) (l .loop .inv .4) e,
     )
 
 returns : tie.Need-returns Inv-loop μ-loop
@@ -76,16 +77,16 @@ starts-from-spec =
     (tie.spec
     Inv-loop
     μ-loop
-    array-write-at
+    array-write-starts
     loop-holds
     mul-box-of
     shared-slice-read-box-of
     box-of-requires
     members-of-requires
     add-next
-    add-at
-    mul-at
-    array-write-at-2
+    add-starts
+    mul-starts
+    array-write-starts-2
     add-k
     loop-less
     loop-again

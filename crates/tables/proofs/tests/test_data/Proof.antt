@@ -1,6 +1,6 @@
 use mathlib.Core.Path.{sym, _∙_}
 use borrow.Author.Needs.{needs}
-use Rattle.tables.proofs.Passed.{outcome-fine, stopped, went-on, data-faults, passed-long, passed-counts, passed-laid}
+use Rattle.tables.proofs.Passed.{outcome-fine, stopped, went-on, data-faults, passed-long, passed-counts, passed-tables}
 use Rattle.tables.proofs.tests.test_data.Statement.{statement}
 use Rattle.tables.proofs.tests.test_data.Tie as tie
 
@@ -25,7 +25,7 @@ table-starts-requires c κs =
 
 test-entries-requires : tie.Need-test-entries-requires
 test-entries-requires c κs =
-    passed-laid _ (outcome-fine _ (sym (c .before .before .before .before .before .test-head .ensures) ∙ c .before .before .before .enum-told2 .given .1)) _ (c .before .before .counts-of .ensures) (c .before .table-starts .ensures .1)
+    passed-tables _ (outcome-fine _ (sym (c .before .before .before .before .before .test-head .ensures) ∙ c .before .before .before .enum-told2 .given .1)) _ (c .before .before .counts-of .ensures) (c .before .table-starts .ensures .1)
 
 returns-2 : tie.Need-returns-2
 returns-2 c =

@@ -6,7 +6,7 @@ use borrow.Author.Needs.{needs}
 use borrow.Author.Tests.{not-true, not-false}
 use Rattle.sums.specs.Index.{inside}
 use Rattle.sums.proofs.Spans.{upto-stop}
-use Rattle.model.specs.Data.{read}
+use Rattle.model.specs.Data.{read, tableCount}
 use Rattle.model.specs.Tests.{unless}
 use Rattle.tables.specs.Layout.{startFrom, tableSets, outcome}
 use Rattle.tables.proofs.Laws.{start-zero}
@@ -20,39 +20,39 @@ use Rattle.tables.proofs.ranges.range_at.Reads as range-at-reads
 use Rattle.tables.proofs.starts.table_box.Reads as table-box-reads
 
 abbrev Inv-loop4 : tie.InvT-loop4
-Inv-loop4 «data» at c place₀ answer₀ t b y i j r s₀ y-end i-end j-end s-end place answer s =
+Inv-loop4 «data» tables-at c place₀ answer₀ t b y i j r s₀ y-end i-end j-end s-end place answer s =
     Reached (atSlice (read «data») b t y i j) (λ k. startFrom c tableSets 7 t + inside b y i j k) s (b .slices) place answer
 
 abbrev μ-loop4 : tie.MeasureT-loop4
-μ-loop4 «data» at c place₀ answer₀ t b y i j r s₀ y-end i-end j-end s-end place answer s = b .slices - s
+μ-loop4 «data» tables-at c place₀ answer₀ t b y i j r s₀ y-end i-end j-end s-end place answer s = b .slices - s
 
 abbrev Inv-loop3 : tie.InvT-loop3
-Inv-loop3 «data» at c place₀ answer₀ t b y i j₀ y-end i-end j-end place answer j =
+Inv-loop3 «data» tables-at c place₀ answer₀ t b y i j₀ y-end i-end j-end place answer j =
     Reached (atSecond (read «data») b t y i) (λ k. startFrom c tableSets 7 t + inside b y i k 0) j (b .seconds) place answer
 
 abbrev μ-loop3 : tie.MeasureT-loop3
-μ-loop3 «data» at c place₀ answer₀ t b y i j₀ y-end i-end j-end place answer j = b .seconds - j
+μ-loop3 «data» tables-at c place₀ answer₀ t b y i j₀ y-end i-end j-end place answer j = b .seconds - j
 
 abbrev Inv-loop2 : tie.InvT-loop2
-Inv-loop2 «data» at c place₀ answer₀ t b y i₀ y-end i-end place answer i =
+Inv-loop2 «data» tables-at c place₀ answer₀ t b y i₀ y-end i-end place answer i =
     Reached (atFirst (read «data») b t y) (λ k. startFrom c tableSets 7 t + inside b y k 0 0) i (b .firsts) place answer
 
 abbrev μ-loop2 : tie.MeasureT-loop2
-μ-loop2 «data» at c place₀ answer₀ t b y i₀ y-end i-end place answer i = b .firsts - i
+μ-loop2 «data» tables-at c place₀ answer₀ t b y i₀ y-end i-end place answer i = b .firsts - i
 
 abbrev Inv-loop : tie.InvT-loop
-Inv-loop «data» at c place₀ answer₀ t b y₀ y-end place answer y =
+Inv-loop «data» tables-at c place₀ answer₀ t b y₀ y-end place answer y =
     Reached (atYear (read «data») b t) (λ k. startFrom c tableSets 7 t + inside b k 0 0 0) y (b .years) place answer
 
 abbrev μ-loop : tie.MeasureT-loop
-μ-loop «data» at c place₀ answer₀ t b y₀ y-end place answer y = b .years - y
+μ-loop «data» tables-at c place₀ answer₀ t b y₀ y-end place answer y = b .years - y
 
 abbrev Inv-walk : tie.InvT-walk
-Inv-walk «data» at c place₀ answer₀ t₀ place answer t =
-    Reached (tableFault (read «data»)) (λ k. startFrom c tableSets 7 k) t 42 place answer
+Inv-walk «data» tables-at c place₀ answer₀ t₀ place answer t =
+    Reached (tableFault (read «data»)) (λ k. startFrom c tableSets 7 k) t tableCount place answer
 
 abbrev μ-walk : tie.MeasureT-walk
-μ-walk «data» at c place₀ answer₀ t₀ place answer t = 42 - t
+μ-walk «data» tables-at c place₀ answer₀ t₀ place answer t = tableCount - t
 
 abbrev here : (tie.InvT-loop4 → tie.MeasureT-loop4 → tie.InvT-loop3 → tie.MeasureT-loop3 → tie.InvT-loop2 → tie.MeasureT-loop2 → tie.InvT-loop → tie.MeasureT-loop → tie.InvT-walk → tie.MeasureT-walk → Type 0) → Type 0
 here need = need Inv-loop4 μ-loop4 Inv-loop3 μ-loop3 Inv-loop2 μ-loop2 Inv-loop μ-loop Inv-walk μ-walk

@@ -1,4 +1,5 @@
 use native.Mathlib.Omega.{arith}
+use Rattle.model.specs.Data.{tableCount}
 use Rattle.tables.proofs.Passed.{counted, whole-is, length-wrong, length-right}
 use borrow.Author.Needs.{needs}
 use Rattle.tables.proofs.tests.test_length.Statement.{statement}
@@ -16,12 +17,12 @@ array-read-whole c = search needs
 returns : tie.Need-returns
 returns c =
     let l = c .before .before .before .before .args .«data» .now in
-    length-wrong l (whole-is l (c .before .before .counts-of .ensures) (c .before .table-starts .ensures .1 42 (omega arith))) (c .if1 .taken)
+    length-wrong l (whole-is l (c .before .before .counts-of .ensures) (c .before .table-starts .ensures .1 tableCount (omega arith))) (c .if1 .taken)
 
 returns-2 : tie.Need-returns-2
 returns-2 c =
     let l = c .before .before .before .before .args .«data» .now in
-    length-right l (whole-is l (c .before .before .counts-of .ensures) (c .before .table-starts .ensures .1 42 (omega arith))) (c .if1 .left)
+    length-right l (whole-is l (c .before .before .counts-of .ensures) (c .before .table-starts .ensures .1 tableCount (omega arith))) (c .if1 .left)
 
 pub test-length-spec : {M : Type 1} → statement M
 test-length-spec =

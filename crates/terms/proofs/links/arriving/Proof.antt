@@ -11,11 +11,11 @@ use Rattle.terms.proofs.links.arriving.Statement.{statement}
 use Rattle.terms.proofs.links.arriving.Tie as tie
 
 abbrev Inv-loop : tie.InvT-loop
-Inv-loop plan cat c y z s total₀ u₀ u-end total u =
+Inv-loop plan columns-at c y z s total₀ u₀ u-end total u =
     Summed (c .zones) (λ u. on (not (eqb u z)) (1000 * planEntry c plan (trans y u z s))) u total
 
 abbrev μ-loop : tie.MeasureT-loop
-μ-loop plan cat c y z s total₀ u₀ u-end total u = c .zones - u
+μ-loop plan columns-at c y z s total₀ u₀ u-end total u = c .zones - u
 
 zero-requires : tie.Need-zero-requires Inv-loop μ-loop
 zero-requires c κs = search needs

@@ -11,10 +11,10 @@ use Rattle.terms.proofs.links.limits_into.Statement.{statement}
 use Rattle.terms.proofs.links.limits_into.Tie as tie
 
 abbrev Inv-loop : tie.InvT-loop
-Inv-loop «data» at c y z q total₀ u₀ u-end total u = Added (c .zones) most32 (λ u. on (not (eqb u z)) (tl (read «data») y u z q)) u total
+Inv-loop «data» tables-at c y z q total₀ u₀ u-end total u = Added (c .zones) most32 (λ u. on (not (eqb u z)) (tl (read «data») y u z q)) u total
 
 abbrev μ-loop : tie.MeasureT-loop
-μ-loop «data» at c y z q total₀ u₀ u-end total u = c .zones - u
+μ-loop «data» tables-at c y z q total₀ u₀ u-end total u = c .zones - u
 
 loop-holds : tie.Need-loop-holds Inv-loop μ-loop
 loop-holds c = added-none

@@ -11,11 +11,11 @@ use Rattle.terms.proofs.links.limits_into_all_seasons.Statement.{statem
 use Rattle.terms.proofs.links.limits_into_all_seasons.Tie as tie
 
 abbrev Inv-loop : tie.InvT-loop
-Inv-loop «data» at c y z total₀ u₀ u-end total u =
+Inv-loop «data» tables-at c y z total₀ u₀ u-end total u =
     Added (c .zones) 17179869184 (λ u. on (not (eqb u z)) (sum (c .seasons) (λ q. tl (read «data») y u z q))) u total
 
 abbrev μ-loop : tie.MeasureT-loop
-μ-loop «data» at c y z total₀ u₀ u-end total u = c .zones - u
+μ-loop «data» tables-at c y z total₀ u₀ u-end total u = c .zones - u
 
 loop-holds : tie.Need-loop-holds Inv-loop μ-loop
 loop-holds c = added-none

@@ -12,11 +12,11 @@ use Rattle.terms.proofs.links.received.Statement.{statement}
 use Rattle.terms.proofs.links.received.Tie as tie
 
 abbrev Inv-loop : tie.InvT-loop
-Inv-loop «data» plan at cat c y z s total₀ u₀ u-end total u =
+Inv-loop «data» plan tables-at columns-at c y z s total₀ u₀ u-end total u =
     Summed (c .zones) (λ u. on (not (eqb u z)) ((1000 - loss (read «data») y u z) * planEntry c plan (trans y u z s))) u total
 
 abbrev μ-loop : tie.MeasureT-loop
-μ-loop «data» plan at cat c y z s total₀ u₀ u-end total u = c .zones - u
+μ-loop «data» plan tables-at columns-at c y z s total₀ u₀ u-end total u = c .zones - u
 
 zero-requires : tie.Need-zero-requires Inv-loop μ-loop
 zero-requires c κs = search needs

@@ -7,10 +7,10 @@ use Rattle.terms.proofs.links.seasons_limit.Statement.{statement}
 use Rattle.terms.proofs.links.seasons_limit.Tie as tie
 
 abbrev Inv-loop : tie.InvT-loop
-Inv-loop «data» at c y u z total₀ q₀ q-end total q = Added (c .seasons) most32 (λ q. tl (read «data») y u z q) q total
+Inv-loop «data» tables-at c y u z total₀ q₀ q-end total q = Added (c .seasons) most32 (λ q. tl (read «data») y u z q) q total
 
 abbrev μ-loop : tie.MeasureT-loop
-μ-loop «data» at c y u z total₀ q₀ q-end total q = c .seasons - q
+μ-loop «data» tables-at c y u z total₀ q₀ q-end total q = c .seasons - q
 
 loop-holds : tie.Need-loop-holds Inv-loop μ-loop
 loop-holds c = added-none

@@ -10,7 +10,7 @@ use Rattle.terms.proofs.plants.annuity_sum.Statement.{statement}
 use Rattle.terms.proofs.plants.annuity_sum.Tie as tie
 
 abbrev Inv-loop : tie.InvT-loop
-Inv-loop «data» plan at cat c y share total₀ g₀ g-end total g =
+Inv-loop «data» plan tables-at columns-at c y share total₀ g₀ g-end total g =
     Summed
     (c .plants)
     (λ g. on (candidate (read «data») g) (rate (read «data») y * weight (read «data») y * annuity (read «data») y g * planEntry c plan (cap y g)))
@@ -18,7 +18,7 @@ Inv-loop «data» plan at cat c y share total₀ g₀ g-end total g =
     total
 
 abbrev μ-loop : tie.MeasureT-loop
-μ-loop «data» plan at cat c y share total₀ g₀ g-end total g = c .plants - g
+μ-loop «data» plan tables-at columns-at c y share total₀ g₀ g-end total g = c .plants - g
 
 year-weight-requires : tie.Need-year-weight-requires Inv-loop μ-loop
 year-weight-requires c κs = search needs

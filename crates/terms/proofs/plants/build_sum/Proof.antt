@@ -9,10 +9,10 @@ use Rattle.terms.proofs.plants.build_sum.Statement.{statement}
 use Rattle.terms.proofs.plants.build_sum.Tie as tie
 
 abbrev Inv-loop : tie.InvT-loop
-Inv-loop plan cat c g total₀ y₀ y-end total y = Summed (c .years) (λ y. 1 * planEntry c plan (build y g)) y total
+Inv-loop plan columns-at c g total₀ y₀ y-end total y = Summed (c .years) (λ y. 1 * planEntry c plan (build y g)) y total
 
 abbrev μ-loop : tie.MeasureT-loop
-μ-loop plan cat c g total₀ y₀ y-end total y = c .years - y
+μ-loop plan columns-at c g total₀ y₀ y-end total y = c .years - y
 
 zero-requires : tie.Need-zero-requires Inv-loop μ-loop
 zero-requires c κs = search needs

@@ -11,7 +11,7 @@ use Rattle.terms.proofs.plants.capital_sum.Statement.{statement}
 use Rattle.terms.proofs.plants.capital_sum.Tie as tie
 
 abbrev Inv-loop : tie.InvT-loop
-Inv-loop «data» plan at cat c total₀ y₀ y-end total y =
+Inv-loop «data» plan tables-at columns-at c total₀ y₀ y-end total y =
     Summed
     (c .years)
     (λ y. sum (c .plants) (λ g. on (candidate (read «data») g) (rate (read «data») y * weight (read «data») y * annuity (read «data») y g * planEntry c plan (cap y g))))
@@ -19,7 +19,7 @@ Inv-loop «data» plan at cat c total₀ y₀ y-end total y =
     total
 
 abbrev μ-loop : tie.MeasureT-loop
-μ-loop «data» plan at cat c total₀ y₀ y-end total y = c .years - y
+μ-loop «data» plan tables-at columns-at c total₀ y₀ y-end total y = c .years - y
 
 zero-requires : tie.Need-zero-requires Inv-loop μ-loop
 zero-requires c κs = search needs

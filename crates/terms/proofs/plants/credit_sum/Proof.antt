@@ -11,11 +11,11 @@ use Rattle.terms.proofs.plants.credit_sum.Statement.{statement}
 use Rattle.terms.proofs.plants.credit_sum.Tie as tie
 
 abbrev Inv-loop : tie.InvT-loop
-Inv-loop «data» plan at cat c y z total₀ g₀ g-end total g =
+Inv-loop «data» plan tables-at columns-at c y z total₀ g₀ g-end total g =
     Summed (c .plants) (λ g. on (eqb (zone (read «data») g) z) (capCredit (read «data») g * planEntry c plan (cap y g))) g total
 
 abbrev μ-loop : tie.MeasureT-loop
-μ-loop «data» plan at cat c y z total₀ g₀ g-end total g = c .plants - g
+μ-loop «data» plan tables-at columns-at c y z total₀ g₀ g-end total g = c .plants - g
 
 zero-requires : tie.Need-zero-requires Inv-loop μ-loop
 zero-requires c κs = search needs

@@ -10,10 +10,10 @@ use Rattle.terms.proofs.plants.season_hours.Statement.{statement}
 use Rattle.terms.proofs.plants.season_hours.Tie as tie
 
 abbrev Inv-loop : tie.InvT-loop
-Inv-loop «data» at c q p from total₀ i₀ total i = Added (seasonLength c) most32 (λ i. duration (read «data») (q * seasonLength c + i)) i total
+Inv-loop «data» tables-at c q p from total₀ i₀ total i = Added (seasonLength c) most32 (λ i. duration (read «data») (q * seasonLength c + i)) i total
 
 abbrev μ-loop : tie.MeasureT-loop
-μ-loop «data» at c q p from total₀ i₀ total i = seasonLength c - i
+μ-loop «data» tables-at c q p from total₀ i₀ total i = seasonLength c - i
 
 mul-p : tie.Need-mul-p Inv-loop μ-loop
 mul-p c = small 4 24 tt (c .before .before .pre .0 .counted .fewDays) (c .before .before .pre .0 .counted .fewHours)

@@ -11,7 +11,7 @@ use Rattle.terms.proofs.plants.vre_sum.Statement.{statement}
 use Rattle.terms.proofs.plants.vre_sum.Tie as tie
 
 abbrev Inv-loop : tie.InvT-loop
-Inv-loop «data» at c part z err s total₀ g₀ g-end total g =
+Inv-loop «data» tables-at c part z err s total₀ g₀ g-end total g =
     Summed
     (c .plants)
     (λ g. on (eqb (zone (read «data») g) z) (on (isVre (read «data») g) (err * getD part (g * slicesOf c + s) 0)))
@@ -19,7 +19,7 @@ Inv-loop «data» at c part z err s total₀ g₀ g-end total g =
     total
 
 abbrev μ-loop : tie.MeasureT-loop
-μ-loop «data» at c part z err s total₀ g₀ g-end total g = c .plants - g
+μ-loop «data» tables-at c part z err s total₀ g₀ g-end total g = c .plants - g
 
 zero-requires : tie.Need-zero-requires Inv-loop μ-loop
 zero-requires c κs = search needs

@@ -11,11 +11,11 @@ use Rattle.terms.proofs.plants.zone_sum.Statement.{statement}
 use Rattle.terms.proofs.plants.zone_sum.Tie as tie
 
 abbrev Inv-loop : tie.InvT-loop
-Inv-loop «data» at c part z s total₀ g₀ g-end total g =
+Inv-loop «data» tables-at c part z s total₀ g₀ g-end total g =
     Summed (c .plants) (λ g. on (eqb (zone (read «data») g) z) (1000 * getD part (g * slicesOf c + s) 0)) g total
 
 abbrev μ-loop : tie.MeasureT-loop
-μ-loop «data» at c part z s total₀ g₀ g-end total g = c .plants - g
+μ-loop «data» tables-at c part z s total₀ g₀ g-end total g = c .plants - g
 
 zero-requires : tie.Need-zero-requires Inv-loop μ-loop
 zero-requires c κs = search needs
