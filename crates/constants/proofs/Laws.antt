@@ -18,7 +18,6 @@ use Rattle.model.specs.Families.{Equation, familyOf, equations, empty, outOfSer
 use Rattle.model.specs.Tests.{entriesFault}
 use Rattle.model.proofs.Sound.{entry-range}
 use Rattle.tables.specs.Layout.{TablesAt, Inside}
-use Rattle.tables.proofs.Laws.{NoneOf, none-of}
 use Rattle.constants.specs.declared.Constant.{Constant}
 use Rattle.constants.specs.Constants.{constantOf, noConstant, hasConstant}
 
@@ -92,6 +91,3 @@ module _ {l tables-at : List ℕ} {c : Counts} {z : ℕ} (n : TablesAt l tables-
 pub inside-at : {c : Counts} {k y i j s : ℕ} (K : ℕ) → k ≡ K → Inside c (familyOf k .set) y i j s → Inside c (familyOf K .set) y i j s
 inside-at K e m = rw e at m
 
--- the key of the last arm
-pub last : {k : ℕ} → k < familyCount → NoneOf 19 k → k ≡ 19
-last h rest = let l = none-of 19 rest in omega arith

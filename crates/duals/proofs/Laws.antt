@@ -78,10 +78,6 @@ pub rows-end : (c : Counts) {n : ℕ} → n ≡ start (rowBoxes c) familyCount �
 rows-end c e = rw (row-kinds c) e
 
 -- a family's index set
--- the key of the last arm of a match over the families
-pub the-last : {k : ℕ} → k < familyCount → 19 ≤ k → k ≡ 19
-the-last h l = omega arith
-
 pub family-box : (c : Counts) {k : ℕ} → k < familyCount → boxOf (rowBoxes c) k ≡ boxOf (sets c) (familyOf k .set)
 unfolding familyOf rowBoxes
 family-box c {k} h = getD-map-in (λ (f : Family). boxOf (sets c) (f .set)) families (family 0 0 false) (box 0 0 0 0) k h

@@ -1,5 +1,6 @@
 // The peak demand of a year and zone.
 use model::Counts;
+use tables::entries::wide;
 use tables::names::DEMAND;
 use tables::sets::slices_of;
 use tables::starts::Starts;
@@ -40,11 +41,5 @@ pub fn zone_peak(data: &[u32], tables_at: &Starts, c: Counts, y: usize, z: usize
     let n = slices_of(c);
     let from = tables_at[DEMAND] + (y * c.zones + z) * n;
     let to = from + n;
-    widened(peak_of(&data[from..to]))
-}
-
-fn widened(x: u32) -> u64
-    ensures { λ r. ⌜ (r ≡ x) × (r ≤ most32) ⌝ }
-{
-    x as u64
+    wide(peak_of(&data[from..to]))
 }

@@ -12,11 +12,13 @@ use energy::totals::EnergyTable;
 use energy::totals::fill_energies;
 use model::Counts;
 use parts::years::year_part;
-use places::Place;
 use prices::column::hours_of;
 use prices::column::unit_price;
 use rows::Sides;
 use rows::families::row_sides;
+use sums::Place;
+use tables::entries::number_at;
+use tables::entries::wide;
 use tables::names::GEN;
 use tables::names::RESERVE;
 use tables::ranges::range_at;
@@ -31,7 +33,7 @@ ghost use Prim.Native.Nat.{ℕ, _+_, _-_, _<_};
 ghost use lib.ListN.{length, getD};
 ghost use Rattle.capped.specs.declared.Balance.the-variants.{Is};
 ghost use Rattle.sums.specs.Span.{fine, fault, orElse};
-ghost use Rattle.sums.specs.Index.{count, Member};
+ghost use Rattle.sums.specs.Index.{count, Member, indexOf};
 ghost use Rattle.model.specs.declared.Refusal.the-variants.{Underpriced};
 ghost use Rattle.model.specs.Data.{tableBoxes, placeOf, read};
 ghost use Rattle.model.specs.Columns.{columnBoxes, entries};
@@ -42,7 +44,6 @@ ghost use Rattle.tables.specs.Layout.{TablesAt, ColumnsAt, planEntry};
 ghost use Rattle.energy.specs.Energies.{Energies};
 ghost use Rattle.rows.specs.Ready.{sidesOf};
 ghost use Rattle.columns.specs.Pairs.{Ready};
-ghost use Rattle.places.specs.Numbers.{indexOf};
 ghost use Rattle.figures.specs.Figures.{toldSides, toldPair, rowFigures, columnFigures, entryFigures};
 
 // What a row's positive terms and its negative terms come to.
@@ -136,19 +137,6 @@ pub fn column_figures(data: &[u32], multipliers: &[i64], p: Place) -> ColumnFigu
     let tables_at = table_starts(c);
     let rows_at = row_starts(shape);
     priced_at(data, multipliers, &tables_at, &rows_at, c, p)
-}
-
-fn wide(x: u32) -> u64
-    ensures { λ r. ⌜ r ≡ x ⌝ }
-{
-    x as u64
-}
-
-pub fn number_at(list: &[u32], i: usize) -> u64
-    requires { ⌜ i < length (now list) ⌝ }
-    ensures { λ r. ⌜ r ≡ getD (now (list .entry)) i 0 ⌝ }
-{
-    wide(list[i])
 }
 
 // The entry at `place` of data that passed refusals 1 and 2; `p` is what stands there.

@@ -15,7 +15,7 @@ use Rattle.model.specs.declared.Counts.{Counts}
 use Rattle.tables.specs.Layout.{Counted, Inside}
 use Rattle.tables.proofs.Laws.{small-set}
 use Rattle.writer.specs.Names.{slash}
-use Rattle.places.specs.declared.Place.{Place}
+use Rattle.sums.specs.declared.Place.{Place}
 use Rattle.places.specs.declared.Slice.{Slice}
 use Rattle.places.specs.Numbers.{sliceAt}
 use Rattle.index_words.specs.Indices.{setLetters, letter-y, letter-z, letter-w, letter-g, letter-f, letter-q, letter-m, letter-d, letter-s, indexWords, lettersWords, Low}

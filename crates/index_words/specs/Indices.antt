@@ -10,7 +10,7 @@ use Rattle.model.specs.declared.Counts.{Counts}
 use Rattle.texts.specs.Claims.{bytes}
 use Rattle.answer_line.specs.Line.{decimal}
 use Rattle.writer.specs.Names.{nameAt}
-use Rattle.places.specs.declared.Place.{Place}
+use Rattle.sums.specs.declared.Place.{Place}
 use Rattle.places.specs.Numbers.{sliceAt}
 
 -- The index sets by code, each as the letters of its indices, with a slash between them: y a year, z a zone, w a second zone, g a plant, f a fuel,

@@ -1,16 +1,16 @@
 // The indices of a row, a column or an entry in words, each counted from 1.
 use model::Counts;
-use places::Place;
 use places::slice_at;
+use sums::Place;
 use writer::ROOM;
 use writer::name_part;
 use writer::say_with;
 ghost use mathlib.Core.List.{_++_};
 ghost use Prim.Native.Nat.{_+_, _≤_};
+ghost use Rattle.sums.specs.Index.{indexOf};
 ghost use Rattle.tables.specs.Layout.{Counted};
 ghost use Rattle.answer_line.specs.Line.{decimal};
 ghost use Rattle.writer.specs.Writing.{Started, Said};
-ghost use Rattle.places.specs.Numbers.{indexOf};
 ghost use Rattle.index_words.specs.Indices.{sliceWords, indexWords, lettersWords, placeWords, Low};
 
 // The index sets by code, each as the letters of its indices (specs/Indices.antt), with a slash between them.

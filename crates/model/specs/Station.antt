@@ -1,8 +1,9 @@
 -- The one-plant station of document 01, and its ten cases.
 use mathlib.Core.List.{List, [], _∷_, _++_, map}
-use Prim.Native.Nat.{ℕ}
+use Prim.Native.Nat.{ℕ, _-_}
 use lib.IntN.{ℤ, pos}
 use lib.ListN.{replicate}
+use Rattle.model.specs.Families.{familyCount}
 use Rattle.model.specs.declared.Code.{Code}
 use Rattle.model.specs.Calls.{certify, certificateCode, code}
 
@@ -37,7 +38,7 @@ abbrev pub planOf : Case → List ℕ
 planOf k = k .cap ∷ 0 ∷ 0 ∷ k .gen ∷ 0 ∷ 0 ∷ k .unmet ∷ k .surplus ∷ 0 ∷ 0 ∷ []
 
 abbrev pub multipliersOf : Case → List ℤ
-multipliersOf k = pos (k .multiplier) ∷ replicate 19 (pos 0)
+multipliersOf k = pos (k .multiplier) ∷ replicate (familyCount - 1) (pos 0)
 
 -- what certify answers, in document 01's numbers
 unfoldable pub run : Case → Code

@@ -1,5 +1,6 @@
 // The year's parts of the tables by year, plant and slice (gen and reserve).
 use model::Counts;
+use tables::entries::wide;
 use tables::sets::slices_of;
 ghost use mathlib.Core.Path.{_≡_};
 ghost use Prim.Native.Nat.{ℕ, _+_, _*_, _≤_, _<_};
@@ -26,10 +27,4 @@ pub fn part_at(part: &[u32], c: Counts, g: usize, s: usize) -> u64
     let n = slices_of(c);
     let at = g * n + s;
     wide(part[at])
-}
-
-fn wide(x: u32) -> u64
-    ensures { λ r. ⌜ (r ≡ x) × (r ≤ most32) ⌝ }
-{
-    x as u64
 }

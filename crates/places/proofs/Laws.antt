@@ -9,7 +9,7 @@ use native.Mathlib.Omega.{arith}
 use lib.ListN.{length, getD}
 use Rattle.sums.specs.declared.Box.{Box}
 use Rattle.sums.specs.Sum.{sum}
-use Rattle.sums.specs.Index.{box, boxOf, volume, inside, start, count, number, Member}
+use Rattle.sums.specs.Index.{box, boxOf, volume, inside, start, count, number, Member, indexOf}
 use Rattle.sums.proofs.Sums.{sum-one-more}
 use Rattle.model.specs.declared.Counts.{Counts}
 use Rattle.model.specs.declared.Family.{Family}
@@ -21,8 +21,8 @@ use Rattle.model.specs.Families.{family, families, familyOf, rowBoxes, shapeOf,
 use Rattle.tables.specs.Layout.{Counted, tableSets, startFrom}
 use Rattle.tables.proofs.Laws.{getD-map-in, box-at, start-at}
 use Rattle.duals.specs.Multipliers.{Shaped}
-use Rattle.places.specs.declared.Place.{Place}
-use Rattle.places.specs.Numbers.{indexOf, InBox, sliceAt, SlicesBack}
+use Rattle.sums.specs.declared.Place.{Place}
+use Rattle.places.specs.Numbers.{InBox, sliceAt, SlicesBack}
 
 -- the first start is at most n and the last is above it: there is a kind
 pub some-kind : (starts : List ℕ) (kinds : ℕ) {n : ℕ} → getD starts 0 0 ≤ n → n < getD starts kinds 0 → 0 < kinds

@@ -5,15 +5,12 @@ use Prim.Native.Nat.{ℕ, _+_, _*_, _/_, _%_, _<_}
 use lib.ListN.{getD}
 use Rattle.sums.specs.declared.Box.{Box}
 use Rattle.sums.specs.Span.{listing}
-use Rattle.sums.specs.Index.{Index, index, inside, number, members, Member}
+use Rattle.sums.specs.Index.{Index, index, indexOf, inside, number, members, Member}
 use Rattle.model.specs.declared.Counts.{Counts}
 use Rattle.model.specs.Counts.{slicesOf}
 use Rattle.tables.specs.Layout.{Counted}
-use Rattle.places.specs.declared.Place.{Place}
+use Rattle.sums.specs.declared.Place.{Place}
 use Rattle.places.specs.declared.Slice.{Slice}
-
-abbrev pub indexOf : Place → Index
-indexOf p = index (p .kind) (p .year) (p .first) (p .second) (p .slice)
 
 -- the member of a list of index sets that has the number n
 abbrev pub Numbered : List Box → ℕ → Place → Type 0

@@ -5,6 +5,7 @@ use model::FAMILY_COUNT;
 use model::KIND_COUNT;
 use model::TABLE_COUNT;
 use sums::Box;
+use sums::Place;
 use tables::sets::box_of;
 use tables::sets::family_at;
 use tables::sets::shape_of;
@@ -15,21 +16,12 @@ use tables::starts::table_starts;
 ghost use mathlib.Core.Path.{_≡_};
 ghost use Prim.Native.Nat.{_+_, _≤_, _<_};
 ghost use lib.ListN.{length, getD};
-ghost use Rattle.sums.specs.Index.{volume, count, Member};
+ghost use Rattle.sums.specs.Index.{volume, count, Member, indexOf};
 ghost use Rattle.model.specs.Data.{tableBoxes, placeOf, dataLength};
 ghost use Rattle.model.specs.Columns.{columnBoxes};
 ghost use Rattle.model.specs.Families.{rowBoxes};
 ghost use Rattle.tables.specs.Layout.{Counted};
-ghost use Rattle.places.specs.Numbers.{indexOf, Numbered, InBox, sliceAt};
-
-// A row, a column or a data entry: its kind, year, first index, second index and slice, each counted from 0.
-pub struct Place {
-    pub kind: usize,
-    pub year: usize,
-    pub first: usize,
-    pub second: usize,
-    pub slice: usize,
-}
+ghost use Rattle.places.specs.Numbers.{Numbered, InBox, sliceAt};
 
 // A slice by its season, its day of the season and its hour of the day, each counted from 0.
 pub struct Slice {

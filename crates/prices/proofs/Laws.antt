@@ -204,9 +204,9 @@ module _ {plan columns-at : List ℕ} {c : Counts} {t y i : ℕ} (m : Hours plan
 
 -- The cost by years
 
-sum-ten : (f : ℕ → ℕ) → sum 10 f ≡ f 0 + f 1 + f 2 + f 3 + f 4 + f 5 + f 6 + f 7 + f 8 + f 9
+sum-kinds : (f : ℕ → ℕ) → sum kindCount f ≡ f 0 + f 1 + f 2 + f 3 + f 4 + f 5 + f 6 + f 7 + f 8 + f 9
 unfolding sum
-sum-ten f = omega arith
+sum-kinds f = omega arith
 
 module _ (D : Data) (y i j s : ℕ) where
   build-free : price D (index 1 y i j s) ≡ 0
@@ -225,4 +225,4 @@ pub cost-by-year : (D : Data) (c : Counts) (x : Index → ℕ) → D .counts ≡
 unfolding cost columnBoxes yearCost hoursCost
 cost-by-year D c x e =
     rw (← e)
-    (sum-ten _ ∙ simp (sum-single, build-free, retire-free, trans-free, zero-mul, sum-const-zero, sum-add, add-zero, add-assoc))
+    (sum-kinds _ ∙ simp (sum-single, build-free, retire-free, trans-free, zero-mul, sum-const-zero, sum-add, add-zero, add-assoc))

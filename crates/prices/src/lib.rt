@@ -10,6 +10,7 @@ use tables::entries::by_year_plant;
 use tables::entries::planned_by_year_plant;
 use tables::entries::planned_by_year_zone;
 use tables::entries::single;
+use tables::entries::wide;
 use tables::names::ANNUITY;
 use tables::names::CAP;
 use tables::names::DURATION;
@@ -19,9 +20,9 @@ use tables::names::FIXED_OM;
 use tables::names::GEN;
 use tables::names::GEN_COST;
 use tables::names::KIND;
+use tables::names::RESERVE;
 use tables::names::RES_COST;
 use tables::names::RES_VOLL;
-use tables::names::RESERVE;
 use tables::names::SPINSHORT;
 use tables::names::SRES_VOLL;
 use tables::names::SURPLUS;
@@ -41,7 +42,7 @@ ghost use Rattle.capped.specs.Cap.{cap};
 ghost use Rattle.sums.specs.Sum.{sum, on};
 ghost use Rattle.sums.specs.Index.{index};
 ghost use Rattle.model.specs.Counts.{slicesOf};
-ghost use Rattle.model.specs.Data.{read, duration, fixedOM, annuity, candidate, most32};
+ghost use Rattle.model.specs.Data.{read, duration, fixedOM, annuity, candidate};
 ghost use Rattle.model.specs.Prices.{cost};
 ghost use Rattle.tables.specs.Layout.{Counted, TablesAt, ColumnsAt, planEntry};
 ghost use Rattle.prices.specs.Costs.{Hourly, Hours, setOf, firstsOf, hourPrice, capCost, slicesCost, hourlyCost, hoursCost, firmshortCost, yearCost};
@@ -166,12 +167,6 @@ fn weighted_hours(data: &[u32], tables_at: &Starts, c: Counts, part: &[u32]) -> 
         total = capped::add_product(total, by_slice(data, tables_at, c, DURATION, s), wide(part[s]));
     }
     total
-}
-
-fn wide(x: u32) -> u64
-    ensures { λ r. ⌜ (r ≡ x) × (r ≤ most32) ⌝ }
-{
-    x as u64
 }
 
 // Σ price·entry over the slices of plant or zone i in year y: the hours are summed first and priced once.

@@ -5,7 +5,7 @@ use Prim.Native.Nat.{ℕ, _<_}
 use lib.IntN.{ℤ, pos}
 use lib.ListN.{getD}
 use Rattle.sums.specs.declared.Box.{Box}
-use Rattle.sums.specs.Index.{Index, count, Member}
+use Rattle.sums.specs.Index.{Index, count, Member, indexOf}
 use Rattle.sums.specs.Span.{fine}
 use Rattle.model.specs.declared.Counts.{Counts}
 use Rattle.model.specs.declared.Family.{Family}
@@ -18,8 +18,8 @@ use Rattle.duals.specs.declared.Multiplier.{Multiplier}
 use Rattle.duals.specs.Multipliers.{multiplierOf}
 use Rattle.epm.proofs.Laws.{counts-sound, counts-read}
 use Rattle.texts.specs.Claims.{bytes}
-use Rattle.places.specs.declared.Place.{Place}
-use Rattle.places.specs.Numbers.{indexOf, Numbered, memberAt}
+use Rattle.sums.specs.declared.Place.{Place}
+use Rattle.places.specs.Numbers.{Numbered, memberAt}
 use Rattle.places.proofs.Members.{member-is-at, entry-is-at}
 use Rattle.figures.specs.declared.RowFigures.{RowFigures}
 use Rattle.figures.specs.declared.ColumnFigures.{ColumnFigures}

@@ -1,24 +1,23 @@
 // Columns in words.
 use crate::amounts::say_amount;
 use crate::amounts::say_balance;
-use index_words::say_place;
 use figures::ColumnFigures;
 use figures::column_figures;
+use index_words::say_place;
 use model::Counts;
-use places::Place;
 use places::column_place;
+use sums::Place;
 use tables::starts::column_set;
 use tables::tests::counts_of;
 use writer::ROOM;
 use writer::say;
 use writer::say_name;
 use writer::say_with;
-ghost use Rattle.sums.specs.Index.{Member};
+ghost use Rattle.sums.specs.Index.{Member, indexOf};
 ghost use Rattle.model.specs.Data.{read};
 ghost use Rattle.model.specs.Columns.{columnBoxes};
 ghost use Rattle.tables.specs.Layout.{Counted};
 ghost use Rattle.writer.specs.Writing.{Started, Said};
-ghost use Rattle.places.specs.Numbers.{indexOf};
 ghost use Rattle.sentences.specs.Asked.{OfColumn};
 ghost use Rattle.sentences.specs.Sentences.{columnWords, pricedWords, columnOffScaleWords, underpricedWords};
 

@@ -1,12 +1,12 @@
 // Numbers of the data list, and the scale, in words.
 use crate::amounts::say_range;
-use index_words::say_place;
 use figures::EntryFigures;
 use figures::entry_figures;
-use figures::number_at;
+use index_words::say_place;
 use model::Counts;
-use places::Place;
 use places::entry_place;
+use sums::Place;
+use tables::entries::number_at;
 use tables::starts::table_set;
 use tables::tests::counts_of;
 use tables::tests::most_count;
@@ -14,11 +14,10 @@ use writer::ROOM;
 use writer::say;
 use writer::say_name;
 use writer::say_with;
-ghost use Rattle.sums.specs.Index.{Member};
+ghost use Rattle.sums.specs.Index.{Member, indexOf};
 ghost use Rattle.model.specs.Data.{tableBoxes, read};
 ghost use Rattle.tables.specs.Layout.{Counted};
 ghost use Rattle.writer.specs.Writing.{Started, Said};
-ghost use Rattle.places.specs.Numbers.{indexOf};
 ghost use Rattle.sentences.specs.Asked.{OfCount, OfEntry};
 ghost use Rattle.sentences.specs.Sentences.{entryWords, figureWords, shapeWords, scaleWords, outOfRangeWords};
 

@@ -1,26 +1,25 @@
 // Rows in words.
 use crate::amounts::say_amount;
 use crate::amounts::say_signed;
-use index_words::say_place;
 use duals::multiplier_in;
 use figures::RowFigures;
 use figures::row_figures;
+use index_words::say_place;
 use model::Counts;
-use places::Place;
 use places::row_place;
+use sums::Place;
 use tables::sets::family_at;
 use tables::tests::counts_of;
 use writer::ROOM;
 use writer::say;
 use writer::say_name;
 use writer::say_with;
-ghost use Rattle.sums.specs.Index.{Member};
+ghost use Rattle.sums.specs.Index.{Member, indexOf};
 ghost use Rattle.model.specs.Data.{read};
 ghost use Rattle.model.specs.Columns.{entries};
 ghost use Rattle.model.specs.Families.{rowBoxes};
 ghost use Rattle.tables.specs.Layout.{Counted};
 ghost use Rattle.writer.specs.Writing.{Started, Said};
-ghost use Rattle.places.specs.Numbers.{indexOf};
 ghost use Rattle.sentences.specs.Asked.{OfRow, OfMultiplier};
 ghost use Rattle.sentences.specs.Sentences.{rowWords, sumsWords, ruleWords, multiplierRule, offScaleWords, brokenWords, multiplierWords};
 

@@ -39,6 +39,10 @@ pub none-of : (n : ℕ) {x : ℕ} → NoneOf n x → n ≤ x
 none-of zero h = zero-le
 none-of (suc n) h = ⊎-elim (λ e. absurd (h .1 (sym e))) (λ l. l) (eq-or-lt-of-le (none-of n (h .0)))
 
+-- so of numbers below n + 1 it is n: the key of the last arm
+pub last-arm : (n : ℕ) {x : ℕ} → x < n + 1 → NoneOf n x → x ≡ n
+last-arm n l h = let m = none-of n h in omega arith
+
 module _ {A : Type 0} where
   -- what holds of each entry of a list and of the default holds at any place
   at-any : (P : A → Type 0) (l : List A) (d : A) → Alls (λ k. P) l → P d → (k : ℕ) → P (getD l k d)

@@ -12,14 +12,14 @@ ghost use Rattle.model.specs.Data.{read, most32};
 ghost use Rattle.tables.specs.Layout.{EntryAt, ColumnAt, planEntry};
 
 // A number of a list, widened.
-fn number_at(list: &[u32], i: usize) -> u64
+pub fn number_at(list: &[u32], i: usize) -> u64
     requires { ⌜ i < length (now list) ⌝ }
     ensures { λ r. ⌜ (r ≡ getD (now (list .entry)) i 0) × (r ≤ most32) ⌝ }
 {
     wide(list[i])
 }
 
-fn wide(x: u32) -> u64
+pub fn wide(x: u32) -> u64
     ensures { λ r. ⌜ (r ≡ x) × (r ≤ most32) ⌝ }
 {
     x as u64

@@ -1,7 +1,9 @@
+use Prim.Native.Nat.{_-_}
 use mathlib.Core.Path.{_≡_}
 use native.Mathlib.Omega.{arith}
 use Rattle.model.specs.Standing.{standing⁺, standing⁻}
-use Rattle.tables.proofs.Laws.{none-of}
+use Rattle.model.specs.Columns.{kindCount}
+use Rattle.tables.proofs.Laws.{last-arm}
 use Rattle.columns.proofs.Arms.{by-first, by-slice, by-second, zone-by-first, zone-by-slice, column-is}
 use Rattle.columns.proofs.column_sums.Statement.{statement}
 use Rattle.columns.proofs.column_sums.Tie as tie
@@ -35,10 +37,7 @@ spinshort-column-requires c κs = zone-by-slice 8 (c .match .keys9) (c .before .
 
 firmshort-column-requires : tie.Need-firmshort-column-requires
 firmshort-column-requires c κs =
-    let p = c .before .before .pre in
-    let h = none-of 9 (c .match .rest) in
-    let e : c .before .before .args .k ≡ 9 = omega arith in
-    zone-by-first 9 e p
+    let p = c .before .before .pre in zone-by-first _ (last-arm (kindCount - 1) (p .1 .1 .1 .0) (c .match .rest)) p
 
 returns : tie.Need-returns
 unfolding standing⁺ standing⁻
@@ -79,10 +78,7 @@ returns-9 c = column-is 8 (c .before .match .keys9) (c .before .before .before .
 returns-10 : tie.Need-returns-10
 unfolding standing⁺ standing⁻
 returns-10 c =
-    let p = c .before .before .before .pre in
-    let h = none-of 9 (c .before .match .rest) in
-    let e : c .before .before .before .args .k ≡ 9 = omega arith in
-    column-is 9 e p (c .firmshort-column .ensures)
+    let p = c .before .before .before .pre in column-is _ (last-arm (kindCount - 1) (p .1 .1 .1 .0) (c .before .match .rest)) p (c .firmshort-column .ensures)
 
 pub column-sums-spec : {M : Type 1} → statement M
 column-sums-spec =

@@ -1,7 +1,7 @@
 use mathlib.Core.Path.{_≡_}
-use Rattle.duals.proofs.Laws.{the-last}
-use Rattle.tables.proofs.Laws.{none-of}
-use Rattle.model.specs.Families.{familyOf}
+use Rattle.tables.proofs.Laws.{last-arm}
+use Prim.Native.Nat.{_-_}
+use Rattle.model.specs.Families.{familyOf, familyCount}
 use Rattle.duals.proofs.set_of.Statement.{statement}
 use Rattle.duals.proofs.set_of.Tie as tie
 
@@ -83,7 +83,7 @@ returns-19 c = rw (c .match .keys19)
 
 returns-20 : tie.Need-returns-20
 unfolding familyOf
-returns-20 c = let e : c .before .args .k ≡ 19 = the-last (c .before .pre) (none-of 19 (c .match .rest)) in rw e
+returns-20 c = rw (last-arm (familyCount - 1) (c .before .pre) (c .match .rest))
 
 pub set-of-spec : {M : Type 1} → statement M
 set-of-spec =

@@ -1,9 +1,9 @@
 use mathlib.Core.Path.{_∙_}
+use Rattle.sums.specs.Index.{indexOf}
 use Rattle.model.specs.Data.{read}
 use Rattle.model.specs.Columns.{columnBoxes}
 use Rattle.tables.proofs.Passed.{passed-long, sound-head, sound-entries, sound-tables}
 use Rattle.epm.proofs.Laws.{counts-sound, counts-read, shaped, shape-counts, rows-from}
-use Rattle.places.specs.Numbers.{indexOf}
 use Rattle.figures.proofs.Laws.{counted-alike, short-is}
 use Rattle.figures.proofs.column_figures.Statement.{statement}
 use Rattle.figures.proofs.column_figures.Tie as tie

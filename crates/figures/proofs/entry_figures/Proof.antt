@@ -1,7 +1,7 @@
+use Rattle.sums.specs.Index.{indexOf}
 use Rattle.model.specs.Data.{tableBoxes}
 use Rattle.tables.proofs.Passed.{passed-long, passed-counts, passed-tables}
 use Rattle.epm.proofs.Laws.{counts-read}
-use Rattle.places.specs.Numbers.{indexOf}
 use Rattle.figures.proofs.Laws.{counted-alike, entry-inside, entry-in, entry-told}
 use borrow.Author.Needs.{needs}
 use Rattle.figures.proofs.entry_figures.Statement.{statement}
@@ -37,7 +37,7 @@ returns c =
     let a = c .before .before .before .before .before .before .before .before in
     let p = a .args .p in
     entry-told (a .args .«data» .now) (p .kind) (p .year) (p .first) (p .second) (p .slice) (a .pre .1 .1)
-    (c .before .before .before .range-at .ensures (p .year) (p .slice)) (c .before .before .wide .ensures) (c .before .wide2 .ensures) (c .number-at .ensures)
+    (c .before .before .before .range-at .ensures (p .year) (p .slice)) (c .before .before .wide .ensures .0) (c .before .wide2 .ensures .0) (c .number-at .ensures .0)
 
 pub entry-figures-spec : {M : Type 1} → statement M
 entry-figures-spec =

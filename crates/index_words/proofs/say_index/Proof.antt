@@ -1,5 +1,5 @@
+use Rattle.sums.specs.Index.{indexOf}
 use Rattle.writer.proofs.Laws.{said-none, said-same}
-use Rattle.places.specs.Numbers.{indexOf}
 use Rattle.index_words.proofs.Laws.{no-index}
 use Rattle.index_words.specs.Indices.{indexWords}
 use borrow.Author.Needs.{needs}

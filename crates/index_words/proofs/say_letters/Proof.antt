@@ -3,9 +3,9 @@ use lib.Seq.{take-all}
 use Prim.Native.Nat.{_-_, _≤_}
 use borrow.Author.Needs.{needs}
 use lib.ListN.{length, take}
+use Rattle.sums.specs.Index.{indexOf}
 use Rattle.writer.specs.Writing.{Said}
 use Rattle.writer.proofs.Laws.{said-none, said-joined, said-same}
-use Rattle.places.specs.Numbers.{indexOf}
 use Rattle.index_words.specs.Indices.{lettersWords}
 use Rattle.index_words.proofs.Laws.{no-letters, one-letter-more}
 use Rattle.index_words.proofs.say_letters.Statement.{statement}

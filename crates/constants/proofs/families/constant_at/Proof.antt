@@ -1,8 +1,10 @@
 use mathlib.Core.Path.{refl}
 use native.Mathlib.Omega.{arith}
-use Rattle.model.specs.Families.{familyOf}
+use Prim.Native.Nat.{_-_}
+use Rattle.model.specs.Families.{familyOf, familyCount}
 use Rattle.constants.specs.Constants.{constantOf, hasConstant}
-use Rattle.constants.proofs.Laws.{without, inside-at, last}
+use Rattle.tables.proofs.Laws.{last-arm}
+use Rattle.constants.proofs.Laws.{without, inside-at}
 use borrow.Author.Needs.{needs}
 use Rattle.constants.proofs.families.constant_at.Statement.{statement}
 use Rattle.constants.proofs.families.constant_at.Tie as tie
@@ -68,7 +70,7 @@ system-emission-constant-requires : tie.Need-system-emission-constant-requires
 unfolding familyOf
 system-emission-constant-requires c κs = 
     let p = c .before .before .pre in
-    let m = inside-at 19 (last (p .1 .1 .0) (c .match .rest)) (p .1 .1 .1) in (p .0, m .year)
+    let m = inside-at _ (last-arm (familyCount - 1) (p .1 .1 .0) (c .match .rest)) (p .1 .1 .1) in (p .0, m .year)
 
 returns : tie.Need-returns
 unfolding constantOf
@@ -148,7 +150,7 @@ returns-19 c = rw (c .before .match .keys19) (c .zone-emission-constant .ensures
 
 returns-20 : tie.Need-returns-20
 unfolding constantOf
-returns-20 c = rw (last (c .before .before .before .pre .1 .1 .0) (c .before .match .rest)) (c .system-emission-constant .ensures)
+returns-20 c = rw (last-arm (familyCount - 1) (c .before .before .before .pre .1 .1 .0) (c .before .match .rest)) (c .system-emission-constant .ensures)
 
 pub constant-at-spec : {M : Type 1} → statement M
 constant-at-spec =

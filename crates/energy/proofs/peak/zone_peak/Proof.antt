@@ -41,13 +41,13 @@ part-peak-of-end c = let p = c .before .before .before .before .pre in omega (ar
 peak-of-requires : tie.Need-peak-of-requires
 peak-of-requires c κs = search needs
 
-widened-requires : tie.Need-widened-requires
-widened-requires c κs = search needs
+wide-requires : tie.Need-wide-requires
+wide-requires c κs = search needs
 
 returns : tie.Need-returns
 returns c =
     let p = c .before .before .before .before .before .before .before .pre in
-    (c .widened .ensures .0 ∙ part-peak (p .0) (p .1 .0) (p .1 .1) (c .before .before .before .before .before .slices-of .ensures .0) (c .before .peak-of .ensures), c .widened .ensures .1)
+    (c .wide .ensures .0 ∙ part-peak (p .0) (p .1 .0) (p .1 .1) (c .before .before .before .before .before .slices-of .ensures .0) (c .before .peak-of .ensures), c .wide .ensures .1)
 
 pub zone-peak-spec : {M : Type 1} → statement M
 zone-peak-spec =
@@ -65,5 +65,5 @@ zone-peak-spec =
     part-peak-of-start
     part-peak-of-end
     peak-of-requires
-    widened-requires
+    wide-requires
     returns)

@@ -1,5 +1,7 @@
-use Rattle.model.specs.Families.{familyOf}
-use Rattle.constants.proofs.Laws.{inside-at, last}
+use Prim.Native.Nat.{_-_}
+use Rattle.model.specs.Families.{familyOf, familyCount}
+use Rattle.tables.proofs.Laws.{last-arm}
+use Rattle.constants.proofs.Laws.{inside-at}
 use Rattle.rows.specs.Ready.{sidesOf}
 use Rattle.rows.proofs.Laws.{by-slice, by-first, first-year}
 use Rattle.rows.proofs.families.row_sides.Statement.{statement}
@@ -93,7 +95,7 @@ system-emission-requires : tie.Need-system-emission-requires
 unfolding familyOf
 system-emission-requires c κs =
     let p = c .before .before .before .before .before .pre in
-    let m = inside-at _ (last (p .1 .0) (c .match .rest)) (p .1 .1) in (p .0, m .year)
+    let m = inside-at _ (last-arm (familyCount - 1) (p .1 .0) (c .match .rest)) (p .1 .1) in (p .0, m .year)
 
 returns : tie.Need-returns
 unfolding sidesOf
@@ -173,7 +175,7 @@ returns-19 c = rw (c .before .match .keys19) (c .zone-emission .ensures)
 
 returns-20 : tie.Need-returns-20
 unfolding sidesOf
-returns-20 c = rw (last (c .before .before .before .before .before .before .pre .1 .0) (c .before .match .rest)) (c .system-emission .ensures)
+returns-20 c = rw (last-arm (familyCount - 1) (c .before .before .before .before .before .before .pre .1 .0) (c .before .match .rest)) (c .system-emission .ensures)
 
 pub row-sides-spec : {M : Type 1} → statement M
 row-sides-spec =
