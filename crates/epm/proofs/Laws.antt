@@ -42,7 +42,7 @@ use Rattle.model.proofs.Sound.{passed, both}
 use Rattle.model.proofs.Demand.{demand3}
 use Rattle.tables.specs.Layout.{Counted, ColumnsAt, startFrom}
 use Rattle.tables.proofs.Laws.{start-at}
-use Rattle.tables.proofs.Passed.{outcome-fine, sound-counts}
+use Rattle.data_tests.proofs.Passed.{outcome-fine, sound-counts}
 use Rattle.duals.specs.Multipliers.{Shaped, RowsAt}
 use Rattle.epm.specs.Answers.{planTest, rowsAndCost, after, boardAfterCheck}
 

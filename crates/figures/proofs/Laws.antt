@@ -26,9 +26,9 @@ use Rattle.model.specs.Families.{familyOf, rowBoxes, familyCount}
 use Rattle.model.specs.Prices.{price}
 use Rattle.model.specs.Tests.{unless, priced⁺, priced⁻, columnFault}
 use Rattle.model.proofs.Sound.{both}
-use Rattle.tables.specs.declared.ranges.Range.{Range}
+use Rattle.ranges.specs.declared.Range.{Range}
 use Rattle.tables.specs.Layout.{Counted, TablesAt, Inside, tableSets, planEntry}
-use Rattle.tables.specs.Ranges.{ranged, rangeOf}
+use Rattle.ranges.specs.Ranges.{ranged, rangeOf}
 use Rattle.tables.proofs.Laws.{box-at}
 use Rattle.rows.specs.declared.Sides.{Sides}
 use Rattle.rows.specs.Ready.{sidesOf}

@@ -8,7 +8,7 @@ use Rattle.sums.specs.Index.{Index, index}
 use Rattle.model.specs.Data.{Data}
 use Rattle.model.specs.Prices.{price}
 use Rattle.model.specs.Tests.{above, below, priced⁺, priced⁻}
-use Rattle.tables.specs.Ranges.{rangeOf}
+use Rattle.ranges.specs.Ranges.{rangeOf}
 use Rattle.rows.specs.declared.Sides.{Sides}
 use Rattle.columns.specs.declared.Pair.{Pair}
 use Rattle.figures.specs.declared.RowFigures.{RowFigures}

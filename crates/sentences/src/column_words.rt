@@ -1,6 +1,7 @@
 // Columns in words.
 use crate::amounts::say_amount;
 use crate::amounts::say_balance;
+use data_tests::counts_of;
 use figures::ColumnFigures;
 use figures::column_figures;
 use index_words::say_place;
@@ -8,7 +9,6 @@ use model::Counts;
 use places::column_place;
 use sums::Place;
 use tables::starts::column_set;
-use tables::tests::counts_of;
 use writer::ROOM;
 use writer::say;
 use writer::say_name;

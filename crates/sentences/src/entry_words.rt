@@ -1,5 +1,7 @@
 // Numbers of the data list, and the scale, in words.
 use crate::amounts::say_range;
+use data_tests::counts_of;
+use data_tests::most_count;
 use figures::EntryFigures;
 use figures::entry_figures;
 use index_words::say_place;
@@ -8,8 +10,6 @@ use places::entry_place;
 use sums::Place;
 use tables::entries::number_at;
 use tables::starts::table_set;
-use tables::tests::counts_of;
-use tables::tests::most_count;
 use writer::ROOM;
 use writer::say;
 use writer::say_name;

@@ -1,6 +1,7 @@
 // Rows in words.
 use crate::amounts::say_amount;
 use crate::amounts::say_signed;
+use data_tests::counts_of;
 use duals::multiplier_in;
 use figures::RowFigures;
 use figures::row_figures;
@@ -9,7 +10,6 @@ use model::Counts;
 use places::row_place;
 use sums::Place;
 use tables::sets::family_at;
-use tables::tests::counts_of;
 use writer::ROOM;
 use writer::say;
 use writer::say_name;

@@ -1,7 +1,7 @@
 use mathlib.Core.Path.{_∙_}
 use native.Mathlib.Omega.{arith}
 use Rattle.model.specs.Columns.{kindCount}
-use Rattle.tables.proofs.Passed.{passed-long, sound-head, passed-tables}
+use Rattle.data_tests.proofs.Passed.{passed-long, sound-head, passed-tables}
 use Rattle.epm.proofs.Laws.{answered, data-refused, passes, counts-sound, counts-read, columns-end, plan-refused, plan-passed, plan-whole, plan-columns}
 use borrow.Author.Needs.{needs}
 use Rattle.epm.proofs.check.Statement.{statement}

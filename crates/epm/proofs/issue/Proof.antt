@@ -1,6 +1,6 @@
 use mathlib.Core.Path.{_∙_}
 use Rattle.model.specs.Data.{read}
-use Rattle.tables.proofs.Passed.{passed-long, sound-head, sound-entries, passed-tables}
+use Rattle.data_tests.proofs.Passed.{passed-long, sound-head, sound-entries, passed-tables}
 use Rattle.epm.proofs.Laws.{counts-sound, counts-read, shaped, shape-counts, multipliers-refused, multipliers-whole, columns-refused, columns-passed, rows-from}
 use borrow.Author.Needs.{needs}
 use Rattle.epm.proofs.issue.Statement.{statement}

@@ -1,4 +1,4 @@
-use Rattle.tables.proofs.Passed.{sound-entries}
+use Rattle.data_tests.proofs.Passed.{sound-entries}
 use Rattle.epm.proofs.Laws.{rows-refused, cost-told, cost-above}
 use borrow.Author.Needs.{needs}
 use Rattle.epm.proofs.price.Statement.{statement}

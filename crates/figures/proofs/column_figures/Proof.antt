@@ -2,7 +2,7 @@ use mathlib.Core.Path.{_∙_}
 use Rattle.sums.specs.Index.{indexOf}
 use Rattle.model.specs.Data.{read}
 use Rattle.model.specs.Columns.{columnBoxes}
-use Rattle.tables.proofs.Passed.{passed-long, sound-head, sound-entries, sound-tables}
+use Rattle.data_tests.proofs.Passed.{passed-long, sound-head, sound-entries, sound-tables}
 use Rattle.epm.proofs.Laws.{counts-sound, counts-read, shaped, shape-counts, rows-from}
 use Rattle.figures.proofs.Laws.{counted-alike, short-is}
 use Rattle.figures.proofs.column_figures.Statement.{statement}
