@@ -44,7 +44,8 @@ use Rattle.tables.specs.Layout.{Counted, ColumnsAt, startFrom}
 use Rattle.tables.proofs.Laws.{start-at}
 use Rattle.data_tests.proofs.Passed.{outcome-fine, sound-counts}
 use Rattle.duals.specs.Multipliers.{Shaped, RowsAt}
-use Rattle.epm.specs.Answers.{planTest, rowsAndCost, after, boardAfterCheck}
+use Rattle.plan_tests.specs.Tests.{planTest}
+use Rattle.epm.specs.Answers.{rowsAndCost, after, boardAfterCheck}
 
 -- an answer as the promises have it: document 01's number and values, and the case of the enum with them
 
@@ -55,29 +56,6 @@ answered e = (ap answerCode e, e)
 pub certified : (l : List ℕ) (N : ℕ) (plan : List ℕ) (ms : List ℤ) {r : Certificate} → r ≡ certify l N plan ms
     → (certificateCode r ≡ certificateCode (certify l N plan ms)) × ((r ≡ certify l N plan ms) × Binds l N r)
 certified l N plan ms e = (ap certificateCode e, (e, rw e (demand3 l N plan ms)))
-
--- the plan's tests, by what the code found
-
-module _ (N places columns : ℕ) where
-  pub scale-zero : N ≡ 0 → Fails Scale ≡ planTest N places columns
-  unfolding planTest scaleFault unless orElse
-  scale-zero e = rw e
-
-  pub scale-large : 1000 < N → Fails Scale ≡ planTest N places columns
-  unfolding planTest scaleFault unless orElse
-  scale-large h = rw (le-leb 1 N (omega arith), lt-leb N 1000 h)
-
-  pub scale-fine : (N ≡ 0 → ⊥) → N ≤ 1000 → scaleFault N ≡ fine
-  unfolding scaleFault unless
-  scale-fine z h = rw (le-leb 1 N (omega (arith, z)), le-leb N 1000 h)
-
-  pub plan-short : (N ≡ 0 → ⊥) → N ≤ 1000 → (places ≡ columns → ⊥) → Fails (PlanLength columns) ≡ planTest N places columns
-  unfolding planTest unless orElse
-  plan-short z h d = rw (scale-fine z h, ne-eqb places columns d)
-
-  pub plan-fits : (N ≡ 0 → ⊥) → N ≤ 1000 → places ≡ columns → Fine ≡ planTest N places columns
-  unfolding planTest unless orElse
-  plan-fits z h e = rw (scale-fine z h, eq-eqb places columns e)
 
 -- a test that refused, and one that did not, in front of the rest
 pub refused-by : (f g : Fault Refusal) {o : Outcome} {r : Refusal} → o ≡ outcome f → o ≡ Fails r → orElse f g ≡ fault r
@@ -277,13 +255,6 @@ accepted-cost l N plan {c} e = go (checkFault l N plan) refl e
     go (fault r) h p = let z : _≡_ {A = ℕ} 0 1 = cc in absurd (omega arith)
 
 -- the board's test, and the year's outputs
-
-pub year-late : (y years : ℕ) (b : Bool) → years ≤ y → false ≡ (ltb y years && b)
-year-late y years b h = rw (le-ltb y years h)
-
-pub year-in-time : (y years : ℕ) (b : Bool) → y < years → b ≡ (ltb y years && b)
-year-in-time y years b h = rw (lt-ltb y years h)
-
 
 pub board-tested : (D : Data) (y places start : ℕ) {f : Bool} {years needed : ℕ} → f ≡ (ltb y years && leb needed (places - start)) → years ≡ Y D → needed ≡ G D * S D
     → boardFault D y places start ≡ unless f Board

@@ -1,10 +1,6 @@
 // The published calls: check, certify and post. Each takes any lists, and answers on every input. Its contract says the answer in document 01's
 // number and values (`answerCode`, `certificateCode`), and as the case of the enum that callers match on.
-pub mod tests;
-
 use capped::Amount;
-use crate::tests::board_fits;
-use crate::tests::test_plan;
 use data_tests::counts_of;
 use data_tests::test_data;
 use duals::row_starts;
@@ -20,6 +16,8 @@ use model::Outcome;
 use model::Refusal;
 use parts::board::replace;
 use parts::years::year_part;
+use plan_tests::board_fits;
+use plan_tests::test_plan;
 use prices::cost_of;
 use pricing::test_columns;
 use row_tests::test_rows;

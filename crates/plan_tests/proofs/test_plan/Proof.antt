@@ -1,7 +1,7 @@
-use Rattle.epm.proofs.Laws.{scale-zero, scale-large, plan-short, plan-fits}
+use Rattle.plan_tests.proofs.Laws.{scale-zero, scale-large, plan-short, plan-fits}
 use borrow.Author.Needs.{needs}
-use Rattle.epm.proofs.tests.test_plan.Statement.{statement}
-use Rattle.epm.proofs.tests.test_plan.Tie as tie
+use Rattle.plan_tests.proofs.test_plan.Statement.{statement}
+use Rattle.plan_tests.proofs.test_plan.Tie as tie
 
 returns : tie.Need-returns
 returns c = scale-zero _ _ _ (c .if1 .taken)

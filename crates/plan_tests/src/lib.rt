@@ -5,7 +5,7 @@ ghost use mathlib.Core.Path.{_≡_};
 ghost use mathlib.Core.Bool.{Bool, _&&_};
 ghost use Prim.Native.Nat.{_-_};
 ghost use lib.Dec.{ltb, leb};
-ghost use Rattle.epm.specs.Answers.{planTest};
+ghost use Rattle.plan_tests.specs.Tests.{planTest};
 
 // Refusals 4 and 5.
 pub fn test_plan(scale: u32, places: usize, columns: usize) -> Outcome

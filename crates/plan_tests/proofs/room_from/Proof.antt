@@ -1,8 +1,8 @@
 use mathlib.Core.Path.{refl}
 use native.Mathlib.Omega.{arith}
 use borrow.Author.Needs.{needs}
-use Rattle.epm.proofs.tests.room_from.Statement.{statement}
-use Rattle.epm.proofs.tests.room_from.Tie as tie
+use Rattle.plan_tests.proofs.room_from.Statement.{statement}
+use Rattle.plan_tests.proofs.room_from.Tie as tie
 
 sub-result : tie.Need-sub-result
 sub-result c = search needs

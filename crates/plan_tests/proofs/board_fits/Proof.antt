@@ -1,10 +1,10 @@
 use mathlib.Core.Path.{ap, _∙_}
 use native.Mathlib.Omega.{arith}
 use lib.Dec.{leb}
-use Rattle.epm.proofs.Laws.{year-late, year-in-time}
+use Rattle.plan_tests.proofs.Laws.{year-late, year-in-time}
 use borrow.Author.Needs.{needs}
-use Rattle.epm.proofs.tests.board_fits.Statement.{statement}
-use Rattle.epm.proofs.tests.board_fits.Tie as tie
+use Rattle.plan_tests.proofs.board_fits.Statement.{statement}
+use Rattle.plan_tests.proofs.board_fits.Tie as tie
 
 returns : tie.Need-returns
 returns c = year-late (c .before .args .year) (c .before .args .years) _ (omega arith)
