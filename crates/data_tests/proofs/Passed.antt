@@ -8,6 +8,7 @@ use borrow.Author.Tests.{le-leb, lt-leb, eq-eqb, ne-eqb, leb-true, eqb-true}
 use lib.Dec.{eqb, leb}
 use lib.ListN.{length, getD}
 use Rattle.sums.specs.Span.{Fault, fine, fault, orElse}
+use Rattle.sums.specs.Index.{count}
 use Rattle.sums.proofs.Spans.{orElse-fine}
 use Rattle.model.specs.declared.Outcome.{Outcome}
 use Rattle.model.specs.declared.Outcome.the-variants.{Fine, Fails}
@@ -17,8 +18,9 @@ use Rattle.model.specs.declared.Counts.{Counts}
 use Rattle.model.specs.Data.{within, _to_, mostCounts, countsOf, dataLength, read, tableCount}
 use Rattle.model.specs.Tests.{unless, headFault, countFault, countsFault, lengthFault, entriesFault, dataFault}
 use Rattle.model.proofs.Sound.{count-range, passed}
-use Rattle.tables.specs.Layout.{outcome, Counted, TablesAt, startFrom, tableSets}
-use Rattle.tables.proofs.Laws.{tables-end}
+use Rattle.model.specs.Columns.{columnSets, columnBoxes, kindCount}
+use Rattle.tables.specs.Layout.{outcome, Counted, TablesAt, ColumnsAt, startFrom, tableSets}
+use Rattle.tables.proofs.Laws.{tables-end, columns-end as columns-are}
 
 -- Outcomes of one test and then another
 
@@ -140,3 +142,18 @@ module _ (l : List ℕ) (sound : dataFault l ≡ fine) where
 
   pub sound-tables : (tables-at : List ℕ) {c : Counts} → c ≡ countsOf l → ((t : ℕ) → t ≤ tableCount → getD tables-at t 0 ≡ startFrom c tableSets 7 t) → TablesAt l tables-at c
   sound-tables = passed-tables l sound-head
+
+-- the counts that the code holds are those of the data
+pub counts-sound : (l : List ℕ) → dataFault l ≡ fine → {c : Counts} → c ≡ countsOf l → Counted c
+counts-sound l s e = rw e (sound-counts l s)
+
+pub counts-read : (l : List ℕ) {c : Counts} → c ≡ countsOf l → read l .counts ≡ c
+unfolding read
+counts-read l e = sym e
+
+pub columns-end : (l : List ℕ) {c : Counts} {n : ℕ} → c ≡ countsOf l → n ≡ startFrom c columnSets 0 kindCount → n ≡ count (columnBoxes (read l .counts))
+columns-end l {c} e q = q ∙ columns-are c ∙ ap (λ (d : Counts). count (columnBoxes d)) (sym (counts-read l e))
+
+pub plan-columns : {plan columns-at : List ℕ} {c : Counts} (l : List ℕ) → c ≡ countsOf l → length plan ≡ count (columnBoxes (read l .counts))
+    → ((k : ℕ) → k ≤ kindCount → getD columns-at k 0 ≡ startFrom c columnSets 0 k) → ColumnsAt plan columns-at c
+plan-columns l e w s = record { whole = w ∙ ap (λ (d : Counts). count (columnBoxes d)) (counts-read l e); starts = s }

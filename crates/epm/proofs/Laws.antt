@@ -42,7 +42,7 @@ use Rattle.model.proofs.Sound.{passed, both}
 use Rattle.model.proofs.Demand.{demand3}
 use Rattle.tables.specs.Layout.{Counted, ColumnsAt, startFrom}
 use Rattle.tables.proofs.Laws.{start-at}
-use Rattle.data_tests.proofs.Passed.{outcome-fine, sound-counts}
+use Rattle.data_tests.proofs.Passed.{outcome-fine}
 use Rattle.duals.specs.Multipliers.{Shaped, RowsAt}
 use Rattle.plan_tests.specs.Tests.{planTest}
 use Rattle.epm.specs.Answers.{rowsAndCost, after, boardAfterCheck}
@@ -198,37 +198,9 @@ module _ (a : Answer) (f : Fault Refusal) (old new : List ℕ) where
 
 -- what a passed test says, and what acceptance says of data and plan
 
-pub shape-counts : {r : Shape} {c : Counts} → r ≡ shapeOf c → r .counts ≡ c
-unfolding shapeOf
-shape-counts e = ap (λ (r : Shape). r .counts) e
-
--- the counts that the code holds are those of the data
-pub counts-sound : (l : List ℕ) → dataFault l ≡ fine → {c : Counts} → c ≡ countsOf l → Counted c
-counts-sound l s e = rw e (sound-counts l s)
-
-pub counts-read : (l : List ℕ) {c : Counts} → c ≡ countsOf l → read l .counts ≡ c
-unfolding read
-counts-read l e = sym e
-
-pub shaped : (l : List ℕ) → dataFault l ≡ fine → {c : Counts} {shape : Shape} → c ≡ countsOf l → shape ≡ shapeOf c → Shaped shape
-shaped l s e q = record { counted = counts-sound l s (shape-counts q ∙ e); sized = q ∙ ap shapeOf (sym (shape-counts q)) }
-
--- a multiplier for every row, at the counts that the code holds
-pub rows-from : (D : Data) {ms : List ℤ} {rows-at : List ℕ} {c : Counts} → D .counts ≡ c → length ms ≡ count (rowBoxes (D .counts))
-    → ((k : ℕ) → k ≤ familyCount → getD rows-at k 0 ≡ start (rowBoxes c) k) → RowsAt ms rows-at c
-rows-from D e w s = record { whole = w ∙ ap (λ (d : Counts). count (rowBoxes d)) e; starts = s }
-
-pub columns-end : (l : List ℕ) {c : Counts} {n : ℕ} → c ≡ countsOf l → n ≡ startFrom c columnSets 0 kindCount → n ≡ count (columnBoxes (read l .counts))
-unfolding columnBoxes
-columns-end l {c} e q = q ∙ start-at c columnSets 0 kindCount (omega arith) ∙ zero-add _ ∙ ap (λ (d : Counts). count (columnBoxes d)) (sym (counts-read l e))
-
 pub plan-whole : (N places columns : ℕ) {o : Outcome} → o ≡ planTest N places columns → o ≡ Fine → places ≡ columns
 unfolding planTest
 plan-whole N places columns e q = eqb-true places columns (passed _ _ (orElse-fine _ _ (passes e q) .1))
-
-pub plan-columns : {plan columns-at : List ℕ} {c : Counts} (l : List ℕ) → c ≡ countsOf l → length plan ≡ count (columnBoxes (read l .counts))
-    → ((k : ℕ) → k ≤ kindCount → getD columns-at k 0 ≡ startFrom c columnSets 0 k) → ColumnsAt plan columns-at c
-plan-columns l e w s = record { whole = w ∙ ap (λ (d : Counts). count (columnBoxes d)) (counts-read l e); starts = s }
 
 pub accepted-parts : (l : List ℕ) (N : ℕ) (plan : List ℕ) {c : ℕ} → check l N plan ≡ Accepted c
     → (dataFault l ≡ fine) × (length plan ≡ count (columnBoxes (read l .counts)))

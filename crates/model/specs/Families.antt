@@ -292,7 +292,7 @@ module _ (D : Data) where
       ∷ systemEmission y
       ∷ []
 
-  -- opened with the twenty, so that a proof names one definition
+  -- opened with every family, so that a proof names one definition
   unfoldable pub equation : Index → Equation
   unfolding balance transfer spinning firm loading offer rampDown rampUpward minimumLoad available profiled stock life fixed newCapacity yearlyBuild fuelUse capital zoneEmission systemEmission
   equation (index k y i j s) = getD (equations y i j s) k empty

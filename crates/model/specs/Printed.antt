@@ -1,4 +1,4 @@
--- The twenty families once more, as document 01 prints them: each row's two sums over all columns, and its constant.
+-- The families once more, as document 01 prints them: each row's two sums over all columns, and its constant.
 -- Beside Families.antt, which the tests run on, this page is what a reader ticks off against the document; proofs/Printed.antt shows that they agree.
 use mathlib.Core.Path.{_≡_}
 use mathlib.Core.Bool.{Bool, true, false, not, _&&_, _||_}

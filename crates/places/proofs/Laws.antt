@@ -122,13 +122,6 @@ module _ (c : Counts) {b : Box} {k : ℕ} where
   unfolding tableBoxes
   table-box h q = q ∙ sym (box-at c tableSets k h)
 
--- a shape record as `row_starts` takes it
-pub shaped : {c : Counts} {shape : Shape} → Counted c → shape ≡ shapeOf c → Shaped shape
-unfolding shapeOf
-shaped {c} {shape} n e =
-    let q : shape .counts ≡ c = ap (λ (r : Shape). r .counts) e in
-    record { counted = rw q n; sized = e ∙ ap shapeOf (sym q) }
-
 -- a slice's season, day and hour
 pub slices-back : SlicesBack
 unfolding sliceAt

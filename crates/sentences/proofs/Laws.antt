@@ -16,7 +16,7 @@ use Rattle.model.specs.Tests.{dataFault}
 use Rattle.tables.specs.Layout.{Counted}
 use Rattle.duals.specs.declared.Multiplier.{Multiplier}
 use Rattle.duals.specs.Multipliers.{multiplierOf}
-use Rattle.epm.proofs.Laws.{counts-sound, counts-read}
+use Rattle.data_tests.proofs.Passed.{counts-sound, counts-read}
 use Rattle.texts.specs.Claims.{bytes}
 use Rattle.sums.specs.declared.Place.{Place}
 use Rattle.places.specs.Numbers.{Numbered, memberAt}

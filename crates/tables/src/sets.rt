@@ -1,4 +1,4 @@
-// The index sets by their codes, and the fixed table of the twenty families.
+// The index sets by their codes, and the fixed table of families.
 use model::Counts;
 use model::FAMILY_COUNT;
 use model::Family;
@@ -96,7 +96,7 @@ pub fn inside_of(c: Counts, k: usize, y: usize, i: usize, j: usize, s: usize) ->
     ((y * b.firsts + i) * b.seconds + j) * b.slices + s
 }
 
-// The counts and the twenty family sizes that follow from them.
+// The counts and the family sizes that follow from them.
 pub fn shape_of(c: Counts) -> Shape
     requires { ⌜ Counted c ⌝ }
     ensures { λ r. ⌜ r ≡ shapeOf c ⌝ }

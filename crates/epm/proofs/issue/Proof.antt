@@ -1,7 +1,8 @@
 use mathlib.Core.Path.{_∙_}
 use Rattle.model.specs.Data.{read}
-use Rattle.data_tests.proofs.Passed.{passed-long, sound-head, sound-entries, passed-tables}
-use Rattle.epm.proofs.Laws.{counts-sound, counts-read, shaped, shape-counts, multipliers-refused, multipliers-whole, columns-refused, columns-passed, rows-from}
+use Rattle.data_tests.proofs.Passed.{passed-long, sound-head, sound-entries, passed-tables, counts-sound, counts-read}
+use Rattle.duals.proofs.Shapes.{shaped, shape-counts, rows-from}
+use Rattle.epm.proofs.Laws.{multipliers-refused, multipliers-whole, columns-refused, columns-passed}
 use borrow.Author.Needs.{needs}
 use Rattle.epm.proofs.issue.Statement.{statement}
 use Rattle.epm.proofs.issue.Tie as tie
@@ -13,7 +14,7 @@ shape-of-requires : tie.Need-shape-of-requires
 shape-of-requires c κs = counts-sound _ (c .before .before .pre .0) (c .counts-of .ensures)
 
 test-multipliers-requires : tie.Need-test-multipliers-requires
-test-multipliers-requires c κs = shaped _ (c .before .before .before .pre .0) (c .before .counts-of .ensures) (c .shape-of .ensures)
+test-multipliers-requires c κs = shaped (counts-sound _ (c .before .before .before .pre .0) (c .before .counts-of .ensures)) (c .shape-of .ensures)
 
 enum-known-r : tie.Need-enum-known-r
 enum-known-r c = search needs
@@ -28,10 +29,10 @@ enum-told : tie.Need-enum-told
 enum-told c = search needs
 
 table-starts-requires : tie.Need-table-starts-requires
-table-starts-requires c κs = shaped _ (c .before .before .before .before .before .before .before .pre .0) (c .before .before .before .before .before .counts-of .ensures) (c .before .before .before .before .shape-of .ensures) .counted
+table-starts-requires c κs = shaped (counts-sound _ (c .before .before .before .before .before .before .before .pre .0) (c .before .before .before .before .before .counts-of .ensures)) (c .before .before .before .before .shape-of .ensures) .counted
 
 row-starts-requires : tie.Need-row-starts-requires
-row-starts-requires c κs = shaped _ (c .before .before .before .before .before .before .before .before .pre .0) (c .before .before .before .before .before .before .counts-of .ensures) (c .before .before .before .before .before .shape-of .ensures)
+row-starts-requires c κs = shaped (counts-sound _ (c .before .before .before .before .before .before .before .before .pre .0) (c .before .before .before .before .before .before .counts-of .ensures)) (c .before .before .before .before .before .shape-of .ensures)
 
 test-columns-requires : tie.Need-test-columns-requires
 test-columns-requires c κs =

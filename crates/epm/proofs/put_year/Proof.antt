@@ -6,9 +6,9 @@ use Rattle.model.specs.Data.{read}
 use Rattle.model.specs.Calls.{replaced}
 use borrow.Author.Tests.{not-true, not-false}
 use Rattle.tables.proofs.Laws.{small}
-use Rattle.data_tests.proofs.Passed.{passed-long, sound-head}
+use Rattle.data_tests.proofs.Passed.{passed-long, sound-head, counts-sound, counts-read, plan-columns}
 use Rattle.parts.proofs.Parts.{part-asked, part-is}
-use Rattle.epm.proofs.Laws.{counts-sound, counts-read, plan-columns, board-tested, board-room, board-refused, board-written, outputs-are, places-are, years-are, some-places}
+use Rattle.epm.proofs.Laws.{board-tested, board-room, board-refused, board-written, outputs-are, places-are, years-are, some-places}
 use borrow.Author.Needs.{needs}
 use Rattle.epm.proofs.put_year.Statement.{statement}
 use Rattle.epm.proofs.put_year.Tie as tie

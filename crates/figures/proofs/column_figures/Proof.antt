@@ -2,8 +2,8 @@ use mathlib.Core.Path.{_∙_}
 use Rattle.sums.specs.Index.{indexOf}
 use Rattle.model.specs.Data.{read}
 use Rattle.model.specs.Columns.{columnBoxes}
-use Rattle.data_tests.proofs.Passed.{passed-long, sound-head, sound-entries, sound-tables}
-use Rattle.epm.proofs.Laws.{counts-sound, counts-read, shaped, shape-counts, rows-from}
+use Rattle.data_tests.proofs.Passed.{passed-long, sound-head, sound-entries, sound-tables, counts-sound, counts-read}
+use Rattle.duals.proofs.Shapes.{shaped, shape-counts, rows-from}
 use Rattle.figures.proofs.Laws.{counted-alike, short-is}
 use Rattle.figures.proofs.column_figures.Statement.{statement}
 use Rattle.figures.proofs.column_figures.Tie as tie
@@ -15,10 +15,10 @@ shape-of-requires : tie.Need-shape-of-requires
 shape-of-requires c κs = counts-sound _ (c .before .before .pre .0) (c .counts-of .ensures)
 
 table-starts-requires : tie.Need-table-starts-requires
-table-starts-requires c κs = shaped _ (c .before .before .before .before .pre .0) (c .before .before .counts-of .ensures) (c .before .shape-of .ensures) .counted
+table-starts-requires c κs = shaped (counts-sound _ (c .before .before .before .before .pre .0) (c .before .before .counts-of .ensures)) (c .before .shape-of .ensures) .counted
 
 row-starts-requires : tie.Need-row-starts-requires
-row-starts-requires c κs = shaped _ (c .before .before .before .before .before .pre .0) (c .before .before .before .counts-of .ensures) (c .before .before .shape-of .ensures)
+row-starts-requires c κs = shaped (counts-sound _ (c .before .before .before .before .before .pre .0) (c .before .before .before .counts-of .ensures)) (c .before .before .shape-of .ensures)
 
 priced-at-requires : tie.Need-priced-at-requires
 priced-at-requires c κs =

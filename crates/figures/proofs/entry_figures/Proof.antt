@@ -1,7 +1,6 @@
 use Rattle.sums.specs.Index.{indexOf}
 use Rattle.model.specs.Data.{tableBoxes}
-use Rattle.data_tests.proofs.Passed.{passed-long, passed-counts, passed-tables}
-use Rattle.epm.proofs.Laws.{counts-read}
+use Rattle.data_tests.proofs.Passed.{passed-long, passed-counts, passed-tables, counts-read}
 use Rattle.figures.proofs.Laws.{counted-alike, entry-inside, entry-in, entry-told}
 use borrow.Author.Needs.{needs}
 use Rattle.figures.proofs.entry_figures.Statement.{statement}

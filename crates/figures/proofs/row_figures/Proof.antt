@@ -1,7 +1,6 @@
 use Rattle.sums.specs.Index.{indexOf}
 use Rattle.model.specs.Families.{rowBoxes}
-use Rattle.data_tests.proofs.Passed.{passed-long, sound-head, sound-entries, sound-tables}
-use Rattle.epm.proofs.Laws.{counts-sound, counts-read, plan-columns}
+use Rattle.data_tests.proofs.Passed.{passed-long, sound-head, sound-entries, sound-tables, counts-sound, counts-read, plan-columns}
 use Rattle.figures.proofs.Laws.{counted-alike, row-told}
 use borrow.Author.Needs.{needs}
 use Rattle.figures.proofs.row_figures.Statement.{statement}

@@ -1,7 +1,8 @@
 use native.Mathlib.Omega.{arith}
 use borrow.Author.Needs.{needs}
 use Rattle.model.specs.Families.{rowBoxes}
-use Rattle.places.proofs.Laws.{starts-around, in-kind, numbered-is, row-starts-are, row-box, shaped}
+use Rattle.duals.proofs.Shapes.{shaped}
+use Rattle.places.proofs.Laws.{starts-around, in-kind, numbered-is, row-starts-are, row-box}
 use Rattle.places.proofs.row_place.Statement.{statement}
 use Rattle.places.proofs.row_place.Tie as tie
 

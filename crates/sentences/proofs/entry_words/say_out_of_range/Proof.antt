@@ -1,8 +1,7 @@
 use mathlib.Core.Path.{sym}
 use Rattle.sums.specs.Index.{indexOf}
 use Rattle.model.specs.Data.{tableBoxes}
-use Rattle.data_tests.proofs.Passed.{passed-long, passed-counts}
-use Rattle.epm.proofs.Laws.{counts-read}
+use Rattle.data_tests.proofs.Passed.{passed-long, passed-counts, counts-read}
 use Rattle.writer.proofs.Laws.{said-joined, said-same}
 use Rattle.figures.proofs.Laws.{counted-alike}
 use Rattle.sentences.proofs.Laws.{out-of-range-is}

@@ -1,7 +1,6 @@
 use Rattle.figures.proofs.Laws.{row-inside}
 use Rattle.model.specs.Families.{rowBoxes}
-use Rattle.data_tests.proofs.Passed.{passed-long, sound-head}
-use Rattle.epm.proofs.Laws.{counts-sound, counts-read}
+use Rattle.data_tests.proofs.Passed.{passed-long, sound-head, counts-sound, counts-read}
 use Rattle.writer.proofs.Laws.{said-joined, said-same}
 use Rattle.sentences.proofs.Laws.{numbered-asked, multiplier-is}
 use borrow.Author.Needs.{needs}

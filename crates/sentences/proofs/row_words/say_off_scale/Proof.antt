@@ -3,8 +3,7 @@ use Rattle.sums.specs.Index.{indexOf}
 use Rattle.model.specs.Data.{read}
 use Rattle.model.specs.Columns.{entries}
 use Rattle.model.specs.Families.{rowBoxes}
-use Rattle.data_tests.proofs.Passed.{passed-long, sound-head}
-use Rattle.epm.proofs.Laws.{counts-sound, counts-read}
+use Rattle.data_tests.proofs.Passed.{passed-long, sound-head, counts-sound, counts-read}
 use Rattle.writer.proofs.Laws.{said-joined, said-same}
 use Rattle.figures.proofs.Laws.{counted-alike}
 use Rattle.sentences.proofs.Laws.{numbered-asked, off-scale-is}
