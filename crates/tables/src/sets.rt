@@ -11,28 +11,48 @@ ghost use Rattle.model.specs.Counts.{sets, slicesOf};
 ghost use Rattle.model.specs.Families.{familyOf, shapeOf, familyCount};
 ghost use Rattle.tables.specs.Layout.{Counted, Small, Inside};
 
+// The codes of the index sets, in the order of the definitions (`sets`).
+pub const BY_YEAR_ZONE_SLICE: usize = 0; // y, z, s
+pub const BY_LINK_SLICE: usize = 1; // y, z, z2, s
+pub const BY_YEAR_ZONE: usize = 2; // y, z
+pub const BY_YEAR_PLANT_SLICE: usize = 3; // y, g, s
+pub const BY_YEAR_PLANT_SEASON: usize = 4; // y, g, q
+pub const BY_YEAR_PLANT: usize = 5; // y, g
+pub const BY_PLANT: usize = 6; // g
+pub const BY_YEAR_ZONE_FUEL: usize = 7; // y, z, f
+pub const SINGLE: usize = 8; // one member
+pub const BY_YEAR: usize = 9; // y
+pub const BY_SLICE: usize = 10; // s
+pub const BY_DAY: usize = 11; // q, d
+pub const BY_PLANT_SEASON: usize = 12; // g, q
+pub const BY_PLANT_SLICE: usize = 13; // g, s
+pub const BY_ZONE: usize = 14; // z
+pub const BY_LINK_SEASON: usize = 15; // y, z, z2, q
+pub const BY_LINK: usize = 16; // y, z, z2
+pub const BY_YEAR_FUEL: usize = 17; // y, f
+
 // Equation number, index set and equality of each family, in document 01's order.
 const FAMILIES: [Family; FAMILY_COUNT] = [
-    Family { equation: 14, set: 0, equal: true },
-    Family { equation: 15, set: 1, equal: false },
-    Family { equation: 19, set: 0, equal: false },
-    Family { equation: 21, set: 2, equal: false },
-    Family { equation: 22, set: 3, equal: false },
-    Family { equation: 23, set: 3, equal: false },
-    Family { equation: 24, set: 3, equal: false },
-    Family { equation: 25, set: 3, equal: false },
-    Family { equation: 26, set: 3, equal: false },
-    Family { equation: 27, set: 4, equal: false },
-    Family { equation: 28, set: 3, equal: false },
-    Family { equation: 34, set: 5, equal: true },
-    Family { equation: 37, set: 5, equal: false },
-    Family { equation: 61, set: 5, equal: false },
-    Family { equation: 55, set: 6, equal: false },
-    Family { equation: 58, set: 5, equal: false },
-    Family { equation: 62, set: 7, equal: false },
-    Family { equation: 64, set: 8, equal: false },
-    Family { equation: 66, set: 2, equal: false },
-    Family { equation: 68, set: 9, equal: false },
+    Family { equation: 14, set: BY_YEAR_ZONE_SLICE, equal: true },
+    Family { equation: 15, set: BY_LINK_SLICE, equal: false },
+    Family { equation: 19, set: BY_YEAR_ZONE_SLICE, equal: false },
+    Family { equation: 21, set: BY_YEAR_ZONE, equal: false },
+    Family { equation: 22, set: BY_YEAR_PLANT_SLICE, equal: false },
+    Family { equation: 23, set: BY_YEAR_PLANT_SLICE, equal: false },
+    Family { equation: 24, set: BY_YEAR_PLANT_SLICE, equal: false },
+    Family { equation: 25, set: BY_YEAR_PLANT_SLICE, equal: false },
+    Family { equation: 26, set: BY_YEAR_PLANT_SLICE, equal: false },
+    Family { equation: 27, set: BY_YEAR_PLANT_SEASON, equal: false },
+    Family { equation: 28, set: BY_YEAR_PLANT_SLICE, equal: false },
+    Family { equation: 34, set: BY_YEAR_PLANT, equal: true },
+    Family { equation: 37, set: BY_YEAR_PLANT, equal: false },
+    Family { equation: 61, set: BY_YEAR_PLANT, equal: false },
+    Family { equation: 55, set: BY_PLANT, equal: false },
+    Family { equation: 58, set: BY_YEAR_PLANT, equal: false },
+    Family { equation: 62, set: BY_YEAR_ZONE_FUEL, equal: false },
+    Family { equation: 64, set: SINGLE, equal: false },
+    Family { equation: 66, set: BY_YEAR_ZONE, equal: false },
+    Family { equation: 68, set: BY_YEAR, equal: false },
 ];
 
 pub fn family_at(k: usize) -> Family
@@ -57,24 +77,24 @@ pub fn box_of(c: Counts, set: usize) -> Box
 {
     let s = slices_of(c);
     match set {
-        0 => Box { years: c.years, firsts: c.zones, seconds: 1, slices: s },
-        1 => Box { years: c.years, firsts: c.zones, seconds: c.zones, slices: s },
-        2 => Box { years: c.years, firsts: c.zones, seconds: 1, slices: 1 },
-        3 => Box { years: c.years, firsts: c.plants, seconds: 1, slices: s },
-        4 => Box { years: c.years, firsts: c.plants, seconds: 1, slices: c.seasons },
-        5 => Box { years: c.years, firsts: c.plants, seconds: 1, slices: 1 },
-        6 => Box { years: 1, firsts: c.plants, seconds: 1, slices: 1 },
-        7 => Box { years: c.years, firsts: c.zones, seconds: c.fuels, slices: 1 },
-        8 => Box { years: 1, firsts: 1, seconds: 1, slices: 1 },
-        9 => Box { years: c.years, firsts: 1, seconds: 1, slices: 1 },
-        10 => Box { years: 1, firsts: 1, seconds: 1, slices: s },
-        11 => Box { years: 1, firsts: c.seasons, seconds: c.days, slices: 1 },
-        12 => Box { years: 1, firsts: c.plants, seconds: 1, slices: c.seasons },
-        13 => Box { years: 1, firsts: c.plants, seconds: 1, slices: s },
-        14 => Box { years: 1, firsts: c.zones, seconds: 1, slices: 1 },
-        15 => Box { years: c.years, firsts: c.zones, seconds: c.zones, slices: c.seasons },
-        16 => Box { years: c.years, firsts: c.zones, seconds: c.zones, slices: 1 },
-        17 => Box { years: c.years, firsts: 1, seconds: c.fuels, slices: 1 },
+        BY_YEAR_ZONE_SLICE => Box { years: c.years, firsts: c.zones, seconds: 1, slices: s },
+        BY_LINK_SLICE => Box { years: c.years, firsts: c.zones, seconds: c.zones, slices: s },
+        BY_YEAR_ZONE => Box { years: c.years, firsts: c.zones, seconds: 1, slices: 1 },
+        BY_YEAR_PLANT_SLICE => Box { years: c.years, firsts: c.plants, seconds: 1, slices: s },
+        BY_YEAR_PLANT_SEASON => Box { years: c.years, firsts: c.plants, seconds: 1, slices: c.seasons },
+        BY_YEAR_PLANT => Box { years: c.years, firsts: c.plants, seconds: 1, slices: 1 },
+        BY_PLANT => Box { years: 1, firsts: c.plants, seconds: 1, slices: 1 },
+        BY_YEAR_ZONE_FUEL => Box { years: c.years, firsts: c.zones, seconds: c.fuels, slices: 1 },
+        SINGLE => Box { years: 1, firsts: 1, seconds: 1, slices: 1 },
+        BY_YEAR => Box { years: c.years, firsts: 1, seconds: 1, slices: 1 },
+        BY_SLICE => Box { years: 1, firsts: 1, seconds: 1, slices: s },
+        BY_DAY => Box { years: 1, firsts: c.seasons, seconds: c.days, slices: 1 },
+        BY_PLANT_SEASON => Box { years: 1, firsts: c.plants, seconds: 1, slices: c.seasons },
+        BY_PLANT_SLICE => Box { years: 1, firsts: c.plants, seconds: 1, slices: s },
+        BY_ZONE => Box { years: 1, firsts: c.zones, seconds: 1, slices: 1 },
+        BY_LINK_SEASON => Box { years: c.years, firsts: c.zones, seconds: c.zones, slices: c.seasons },
+        BY_LINK => Box { years: c.years, firsts: c.zones, seconds: c.zones, slices: 1 },
+        BY_YEAR_FUEL => Box { years: c.years, firsts: 1, seconds: c.fuels, slices: 1 },
         _ => Box { years: 0, firsts: 0, seconds: 0, slices: 0 },
     }
 }

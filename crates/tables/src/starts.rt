@@ -1,4 +1,20 @@
 // The places at which the tables of a list start.
+use crate::sets::BY_DAY;
+use crate::sets::BY_LINK;
+use crate::sets::BY_LINK_SEASON;
+use crate::sets::BY_LINK_SLICE;
+use crate::sets::BY_PLANT;
+use crate::sets::BY_PLANT_SEASON;
+use crate::sets::BY_PLANT_SLICE;
+use crate::sets::BY_SLICE;
+use crate::sets::BY_YEAR;
+use crate::sets::BY_YEAR_FUEL;
+use crate::sets::BY_YEAR_PLANT;
+use crate::sets::BY_YEAR_PLANT_SLICE;
+use crate::sets::BY_YEAR_ZONE;
+use crate::sets::BY_YEAR_ZONE_SLICE;
+use crate::sets::BY_ZONE;
+use crate::sets::SINGLE;
 use crate::sets::box_of;
 use crate::sets::members_of;
 use model::Counts;
@@ -21,11 +37,63 @@ pub type Starts = [usize; STARTS];
 
 // The code of each table's index set, in the order of the data list.
 const TABLE_SETS: [usize; TABLE_COUNT] = [
-    9, 9, 10, 11, 6, 6, 6, 6, 6, 6, 6, 6, 6, 6, 6, 6, 6, 6, 6, 6, 12, 13, 5, 5, 5, 0, 2, 2, 14, 15, 16, 2, 9, 9, 17, 9, 8, 8, 8, 8, 8, 8,
+    BY_YEAR, // 0 return rate
+    BY_YEAR, // 1 weight
+    BY_SLICE, // 2 duration
+    BY_DAY, // 3 minimum-load day
+    BY_PLANT, // 4 zone
+    BY_PLANT, // 5 fuel
+    BY_PLANT, // 6 kind
+    BY_PLANT, // 7 VRE
+    BY_PLANT, // 8 GenCap
+    BY_PLANT, // 9 year
+    BY_PLANT, // 10 MaxNewCap
+    BY_PLANT, // 11 OverLoad
+    BY_PLANT, // 12 ResOffer
+    BY_PLANT, // 13 RampDn
+    BY_PLANT, // 14 RampUp
+    BY_PLANT, // 15 MinCapFac
+    BY_PLANT, // 16 CapCredit
+    BY_PLANT, // 17 HeatRate
+    BY_PLANT, // 18 emission
+    BY_PLANT, // 19 ResCost
+    BY_PLANT_SEASON, // 20 Availability
+    BY_PLANT_SLICE, // 21 Profile
+    BY_YEAR_PLANT, // 22 Annuity
+    BY_YEAR_PLANT, // 23 FixedOM
+    BY_YEAR_PLANT, // 24 GenCost
+    BY_YEAR_ZONE_SLICE, // 25 Demand
+    BY_YEAR_ZONE, // 26 EE
+    BY_YEAR_ZONE, // 27 SRes
+    BY_ZONE, // 28 PRM
+    BY_LINK_SEASON, // 29 TL
+    BY_LINK, // 30 Loss
+    BY_YEAR_ZONE, // 31 zone cap
+    BY_YEAR, // 32 system cap
+    BY_YEAR, // 33 Tax
+    BY_YEAR_FUEL, // 34 MaxFuel
+    BY_YEAR, // 35 BuildLimit
+    SINGLE, // 36 VOLL
+    SINGLE, // 37 SurplusPenalty
+    SINGLE, // 38 RESVoLL
+    SINGLE, // 39 SRESVoLL
+    SINGLE, // 40 Err
+    SINGLE, // 41 MaxCapital
 ];
 
-// The code of each table's index set, in the order of the plan.
-const COLUMN_SETS: [usize; KIND_COUNT] = [5, 5, 5, 3, 3, 1, 0, 0, 0, 2];
+// The code of each kind of column's index set, in the order of the plan.
+const COLUMN_SETS: [usize; KIND_COUNT] = [
+    BY_YEAR_PLANT, // 0 cap
+    BY_YEAR_PLANT, // 1 build
+    BY_YEAR_PLANT, // 2 retire
+    BY_YEAR_PLANT_SLICE, // 3 gen
+    BY_YEAR_PLANT_SLICE, // 4 reserve
+    BY_LINK_SLICE, // 5 trans
+    BY_YEAR_ZONE_SLICE, // 6 unmet
+    BY_YEAR_ZONE_SLICE, // 7 surplus
+    BY_YEAR_ZONE_SLICE, // 8 spinshort
+    BY_YEAR_ZONE, // 9 firmshort
+];
 
 // The code of the index set of a table of the data.
 pub fn table_set(t: usize) -> usize
