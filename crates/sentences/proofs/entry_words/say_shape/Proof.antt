@@ -37,7 +37,7 @@ say-range-requires c κs = search needs
 returns : tie.Need-returns
 unfolding shapeWords
 returns c =
-    rw (← c .before .before .before .before .before .before .before .before .before .before .before .before .number-at .ensures, ← c .before .before .before .before .before .before .before .before .before .before .before .most-count .ensures)
+    rw (← c .before .before .before .before .before .before .before .before .before .before .before .before .number-at .ensures .0, ← c .before .before .before .before .before .before .before .before .before .before .before .most-count .ensures)
     (said-joined (c .before .before .before .before .before .before .before .before .say-with .ensures)
     (said-joined (c .before .before .before .before .before .say .ensures)
     (said-joined (c .before .before .say-name .ensures)
