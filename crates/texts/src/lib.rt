@@ -18,12 +18,6 @@ pub enum Number {
     NoNumber,
 }
 
-// How many numbers of a word its buffer holds with those of a line, or none where that line is a Frame.
-pub enum Joined {
-    Upto(usize),
-    NotJoined,
-}
-
 // How many numbers of each word its buffer holds.
 pub struct Used {
     pub data: usize,
