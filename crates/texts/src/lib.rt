@@ -3,6 +3,12 @@ pub mod input;
 pub mod lines;
 pub mod numbers;
 
+// The most numbers of each word on all its lines.
+pub const MOST_DATA: usize = 4096;
+pub const MOST_PLAN: usize = 2048;
+pub const MOST_SCAL: usize = 1;
+pub const MOST_DUAL: usize = 4096;
+
 // The word that a line opens with.
 pub enum Word {
     Data,

@@ -1,5 +1,9 @@
 // One line: its word, and its numbers behind those of the word's earlier lines.
 use crate::Line;
+use crate::MOST_DATA;
+use crate::MOST_DUAL;
+use crate::MOST_PLAN;
+use crate::MOST_SCAL;
 use crate::Number;
 use crate::Used;
 use crate::Word;
@@ -92,10 +96,10 @@ fn most_of(word: Word) -> usize
     ensures { λ r. ⌜ r ≡ mostOf word ⌝ }
 {
     match word {
-        Word::Data => 4096,
-        Word::Plan => 2048,
-        Word::Scal => 1,
-        Word::Dual => 4096,
+        Word::Data => MOST_DATA,
+        Word::Plan => MOST_PLAN,
+        Word::Scal => MOST_SCAL,
+        Word::Dual => MOST_DUAL,
         Word::Other => 0,
     }
 }
