@@ -76,14 +76,11 @@ fn next_name(names: &[u8], from: usize) -> usize
     requires { ⌜ from ≤ length (now names) ⌝ }
     ensures { λ r. ⌜ (r ≤ length (now (names .entry))) × (drop r (now (names .entry)) ≡ otherNames (drop from (now (names .entry)))) ⌝ }
 {
-    let mut i = from;
-    while i < names.len() {
-        if names[i] == SLASH {
-            return i + 1;
-        }
-        i += 1;
+    let end = name_end(names, from);
+    if end == names.len() {
+        return end;
     }
-    i
+    end + 1
 }
 
 // Where a list of names holds the name of number `k`.
