@@ -1,5 +1,6 @@
 // Words and numbers written one behind another into a line of fixed room. What has no room is left out.
 use answer_line::put_decimal;
+ghost use mathlib.Core.Bool.{cond};
 ghost use mathlib.Core.Path.{_≡_};
 ghost use mathlib.Core.List.{_++_};
 ghost use Prim.Native.Nat.{_-_, _≤_};
@@ -54,6 +55,17 @@ pub fn say_with(line: &mut [u8; ROOM], at: usize, words: &[u8], number: u64) -> 
 {
     let after_words = say(line, at, words);
     say_number(line, after_words, number)
+}
+
+// Adds the words `yes` where a test held, else the words `no`.
+pub fn say_either(line: &mut [u8; ROOM], at: usize, holds: bool, yes: &[u8], no: &[u8]) -> usize
+    requires { ⌜ Started (now line) at ⌝ }
+    ensures { λ r. ⌜ Said (now (line .entry)) at (cond holds (now (yes .entry)) (now (no .entry))) r (now (line .exit)) ⌝ }
+{
+    if holds {
+        return say(line, at, yes);
+    }
+    say(line, at, no)
 }
 
 // The place of the first slash from `from` on, or the list's length.
