@@ -53,21 +53,16 @@ unfolding certificateCode
 code-binds l N (Issued c g) b e = b
 code-binds l N (Withheld r) b e = absurd (refused r e)
 
-first-figure : (out : List ℕ) (c : Code) → 2 ≤ length out → getD (figures out c) 0 0 ≡ c .first
+-- the figures are what stands in the first two places
+two-figures : (out : List ℕ) (c : Code) → 2 ≤ length out → (getD (figures out c) 0 0 ≡ c .first) × (getD (figures out c) 1 0 ≡ c .second)
 unfolding figures
-first-figure [] c h = absurd (omega arith)
-first-figure (a ∷ []) c h = absurd (omega arith)
-first-figure (a ∷ b ∷ out) c h = refl
-
-second-figure : (out : List ℕ) (c : Code) → 2 ≤ length out → getD (figures out c) 1 0 ≡ c .second
-unfolding figures
-second-figure [] c h = absurd (omega arith)
-second-figure (a ∷ []) c h = absurd (omega arith)
-second-figure (a ∷ b ∷ out) c h = refl
+two-figures [] c h = absurd (omega arith)
+two-figures (a ∷ []) c h = absurd (omega arith)
+two-figures (a ∷ b ∷ out) c h = (refl, refl)
 
 -- demand 3 for the figures that are written
 pub out-binds : (l : List ℕ) (N : ℕ) (plan : List ℕ) (ms : List ℤ) (out : List ℕ) {r : ℕ} {last : List ℕ} {c : Code} → 2 ≤ length out
     → c ≡ certificateCode (certify l N plan ms) → (r ≡ c .number) × (last ≡ figures out c) → BindsOut l N r last
 out-binds l N plan ms out {c = c} room e q z =
     let bound : Bounds (read l) N (c .first) (c .second) = rw e (code-binds l N (certify l N plan ms) (demand3 l N plan ms) (ap (λ (k : Code). k .number) (sym e) ∙ sym (q .0) ∙ z)) in
-    rw (q .1, first-figure out c room, second-figure out c room) bound
+    rw (q .1, two-figures out c room .0, two-figures out c room .1) bound

@@ -2,6 +2,10 @@
 use epm::certify;
 use model::Certificate;
 use model::Refusal;
+use texts::MOST_DATA;
+use texts::MOST_DUAL;
+use texts::MOST_PLAN;
+use texts::MOST_SCAL;
 use texts::Reading;
 use texts::Used;
 use texts::input::read_text;
@@ -9,12 +13,6 @@ ghost use mathlib.Core.Path.{_≡_};
 ghost use Rattle.texts.specs.Buffers.{Room, Within, listsIn};
 ghost use Rattle.texts.specs.Format.{whole};
 ghost use Rattle.frames.specs.Format.{scaleIn, certificateOf, certifyText, BindsText};
-
-// The most numbers of each word.
-pub const MOST_DATA: usize = 4096;
-pub const MOST_PLAN: usize = 2048;
-pub const MOST_SCAL: usize = 1;
-pub const MOST_DUAL: usize = 4096;
 
 // N, which is 1 without a SCAL line.
 pub fn scale_in(scal: &[u32]) -> u32

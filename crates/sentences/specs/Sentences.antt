@@ -1,5 +1,5 @@
 -- Rows, columns, entries and figures in words, as bytes. A row, a column and an entry have the number that an answer gives; their indices are counted from 1.
-use mathlib.Core.Bool.{Bool, true, false, cond}
+use mathlib.Core.Bool.{Bool, cond}
 use mathlib.Core.List.{List, _++_}
 use Prim.Native.Nat.{ℕ, _-_}
 use Prim.Native.String.{String}
@@ -68,12 +68,10 @@ unfoldable pub sumsWords : RowFigures → List ℕ
 sumsWords f = bytes ": its positive terms come to " ++ (amountWords (f .above) ++ (bytes ", its negative terms to " ++ amountWords (f .below)))
 
 unfoldable pub ruleWords : Bool → List ℕ
-ruleWords true = bytes ", and the two must be equal"
-ruleWords false = bytes ", and the first must not be less"
+ruleWords isEqual = cond isEqual (bytes ", and the two must be equal") (bytes ", and the first must not be less")
 
 unfoldable pub multiplierRule : Bool → List ℕ
-multiplierRule true = bytes " and must be from -2^40 to 2^40"
-multiplierRule false = bytes " and must be from 0 to 2^40"
+multiplierRule isEqual = cond isEqual (bytes " and must be from -2^40 to 2^40") (bytes " and must be from 0 to 2^40")
 
 module _ (D : Data) where
   abbrev row : ℕ → Index

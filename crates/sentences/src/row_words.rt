@@ -12,6 +12,7 @@ use sums::Place;
 use tables::sets::family_at;
 use writer::ROOM;
 use writer::say;
+use writer::say_either;
 use writer::say_name;
 use writer::say_with;
 ghost use Rattle.sums.specs.Index.{Member, indexOf};
@@ -21,7 +22,7 @@ ghost use Rattle.model.specs.Families.{rowBoxes};
 ghost use Rattle.tables.specs.Layout.{Counted};
 ghost use Rattle.writer.specs.Writing.{Started, Said};
 ghost use Rattle.sentences.specs.Asked.{OfRow, OfMultiplier};
-ghost use Rattle.sentences.specs.Sentences.{rowWords, sumsWords, ruleWords, multiplierRule, offScaleWords, brokenWords, multiplierWords};
+ghost use Rattle.sentences.specs.Sentences.{rowWords, sumsWords, offScaleWords, brokenWords, multiplierWords};
 
 // A row's number, equation with its name, and indices.
 fn say_row(line: &mut [u8; ROOM], at: usize, c: Counts, row: usize, p: Place) -> usize
@@ -50,28 +51,6 @@ fn say_sums(line: &mut [u8; ROOM], at: usize, sums: RowFigures) -> usize
     say_amount(line, second, below)
 }
 
-// When a row holds.
-fn say_rule(line: &mut [u8; ROOM], at: usize, equal: bool) -> usize
-    requires { ⌜ Started (now line) at ⌝ }
-    ensures { λ r. ⌜ Said (now (line .entry)) at (ruleWords equal) r (now (line .exit)) ⌝ }
-{
-    if equal {
-        return say(line, at, b", and the two must be equal");
-    }
-    say(line, at, b", and the first must not be less")
-}
-
-// What a multiplier may be.
-fn say_multiplier_rule(line: &mut [u8; ROOM], at: usize, equal: bool) -> usize
-    requires { ⌜ Started (now line) at ⌝ }
-    ensures { λ r. ⌜ Said (now (line .entry)) at (multiplierRule equal) r (now (line .exit)) ⌝ }
-{
-    if equal {
-        return say(line, at, b" and must be from -2^40 to 2^40");
-    }
-    say(line, at, b" and must be from 0 to 2^40")
-}
-
 // A row of which a sum is too large.
 pub fn say_off_scale(line: &mut [u8; ROOM], at: usize, data: &[u32], scale: u32, plan: &[u32], row: usize) -> usize
     requires { ⌜ Started (now line) at × OfRow (now «data») (now plan) row ⌝ }
@@ -96,7 +75,7 @@ pub fn say_broken(line: &mut [u8; ROOM], at: usize, data: &[u32], scale: u32, pl
     let sums = row_figures(data, scale, plan, p);
     let placed = say_row(line, at, c, row, p);
     let summed = say_sums(line, placed, sums);
-    say_rule(line, summed, f.equal)
+    say_either(line, summed, f.equal, b", and the two must be equal", b", and the first must not be less")
 }
 
 // A row whose multiplier is out of range.
@@ -110,5 +89,5 @@ pub fn say_multiplier(line: &mut [u8; ROOM], at: usize, data: &[u32], multiplier
     let placed = say_row(line, at, c, row, p);
     let is = say(line, placed, b": it is ");
     let signed = say_signed(line, is, multiplier_in(multipliers, row));
-    say_multiplier_rule(line, signed, f.equal)
+    say_either(line, signed, f.equal, b" and must be from -2^40 to 2^40", b" and must be from 0 to 2^40")
 }

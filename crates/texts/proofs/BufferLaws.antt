@@ -1,45 +1,67 @@
--- Laws of the four buffers: what a line of each word makes of the numbers that they hold. Assumes nothing.
-use mathlib.Core.List.{List}
-use mathlib.Core.Option.{none, Option·map}
-use mathlib.Core.Path.{_≡_, _∙_}
-use Prim.Native.Nat.{ℕ, _≤_}
+-- Laws of the four buffers: one number more in one of them, new buffers, and their lengths. Assumes nothing.
+use mathlib.Core.List.{List, [], _∷_, _++_}
+use mathlib.Core.Path.{_≡_, ap, _∙_}
+use Prim.Native.Nat.{ℕ, _+_, _^_, _≤_, _<_}
+use native.Mathlib.Numerals.{add-one}
+use native.Mathlib.Omega.{arith}
+use borrow.Author.Needs.{needs}
 use lib.IntN.{ℤ, pos}
-use lib.ListN.{length, take, replicate, length-replicate}
-use Rattle.texts.specs.declared.Joined.{Joined}
-use Rattle.texts.specs.declared.Joined.the-variants.{Upto}
+use lib.ListN.{length, take, set, replicate, length-replicate}
+use lib.Seq.{take-suc-set}
 use Rattle.texts.specs.declared.Used.{Used}
+use Rattle.texts.specs.declared.Word.{Word}
 use Rattle.texts.specs.declared.Word.the-variants.{Data, Plan, Scal, Dual, Other}
-use Rattle.texts.specs.Format.{mostData, mostPlan, mostScal, mostDual, digits, dualDigits, plain, signed, join, wordOf, withData, withPlan, withScal, withDual, lineOf, addLine}
-use Rattle.texts.specs.Buffers.{held, Inside, Room, listsIn}
+use Rattle.texts.specs.Format.{mostData, mostPlan, mostScal, mostDual, signed, withData, withPlan, withScal, withDual}
+use Rattle.texts.specs.Buffers.{mostOf, usedOf, Room, Within, listsIn, Ready, Added}
 
-module _ (l : List ℕ) (u : Used) (d p s : List ℕ) (m : List ℤ) (room : Room d p s m) (r : Joined) where
-  pub data-line : (e : List ℕ) → wordOf l ≡ Data → held r e ≡ join plain digits (length d) (take (u .«data») d) l
-      → Option·map (withData (listsIn u d p s m)) (held r e) ≡ addLine l (listsIn u d p s m)
-  unfolding addLine lineOf
-  data-line e w h = rw (w, h, room .room-data)
+-- no more numbers of any word than its buffer holds
+pub within-word : (w : Word) {u : Used} → Within u → usedOf w u ≤ mostOf w
+within-word Data h = h .data-within
+within-word Plan h = h .plan-within
+within-word Scal h = h .scal-within
+within-word Dual h = h .dual-within
+within-word Other h = omega arith
 
-  pub plan-line : (e : List ℕ) → wordOf l ≡ Plan → held r e ≡ join plain digits (length p) (take (u .plan) p) l
-      → Option·map (withPlan (listsIn u d p s m)) (held r e) ≡ addLine l (listsIn u d p s m)
-  unfolding addLine lineOf
-  plan-line e w h = rw (w, h, room .room-plan)
+-- one number more in a buffer, behind its first n
+pub take-put : {A : Type 0} (b : List A) {b2 : List A} (n : ℕ) {m : ℕ} (x : A) → (m ≡ n + 1) × (b2 ≡ set b n x) → n < length b → take m b2 ≡ take n b ++ (x ∷ [])
+take-put b n x e h = rw (e .0, e .1, add-one) (take-suc-set b n x h)
 
-  pub scal-line : (e : List ℕ) → wordOf l ≡ Scal → held r e ≡ join plain digits (length s) (take (u .scal) s) l
-      → Option·map (withScal (listsIn u d p s m)) (held r e) ≡ addLine l (listsIn u d p s m)
-  unfolding addLine lineOf
-  scal-line e w h = rw (w, h, room .room-scal)
+-- one number more of each word
+module _ {w : Word} {v : ℕ} {u : Used} {d p s : List ℕ} {m : List ℤ} (ready : Ready w v u d p s m) where
+  pub data-ready : w ≡ Data → (u .«data» < length d) × (v < 2 ^ 32)
+  data-ready e = (omega (arith, rw e at (ready .not-full), ready .room .room-data), rw e at (ready .low))
 
-  pub dual-line : (e : List ℤ) → wordOf l ≡ Dual → held r e ≡ join signed dualDigits (length m) (take (u .dual) m) l
-      → Option·map (withDual (listsIn u d p s m)) (held r e) ≡ addLine l (listsIn u d p s m)
-  unfolding addLine lineOf
-  dual-line e w h = rw (w, h, room .room-dual)
+  pub data-added : w ≡ Data → {d2 : List ℕ} {n : ℕ} → (n ≡ u .«data» + 1) × (d2 ≡ set d (u .«data») v) → Added w v u d p s m (record { «data» = n; plan = u .plan; scal = u .scal; dual = u .dual }) d2 p s m
+  data-added e q =
+      let free = data-ready e .0 in
+      rw e (record { added = ap (withData (listsIn u d p s m)) (take-put d (u .«data») v q free); still-within = search needs; one-more = q .0 })
 
-pub other-line : (l : List ℕ) (u : Used) (d p s : List ℕ) (m : List ℤ) → wordOf l ≡ Other → none ≡ addLine l (listsIn u d p s m)
-unfolding addLine lineOf
-other-line l u d p s m w = rw w
+  pub plan-ready : w ≡ Plan → (u .plan < length p) × (v < 2 ^ 32)
+  plan-ready e = (omega (arith, rw e at (ready .not-full), ready .room .room-plan), rw e at (ready .low))
 
--- a buffer that is as long as it should be has room for what was read
-pub inside : {r : Joined} {n len most : ℕ} → r ≡ Upto n → Inside r len → len ≡ most → n ≤ most
-inside e i f = rw f at (rw e at i)
+  pub plan-added : w ≡ Plan → {p2 : List ℕ} {n : ℕ} → (n ≡ u .plan + 1) × (p2 ≡ set p (u .plan) v) → Added w v u d p s m (record { «data» = u .«data»; plan = n; scal = u .scal; dual = u .dual }) d p2 s m
+  plan-added e q =
+      let free = plan-ready e .0 in
+      rw e (record { added = ap (withPlan (listsIn u d p s m)) (take-put p (u .plan) v q free); still-within = search needs; one-more = q .0 })
+
+  pub scal-ready : w ≡ Scal → (u .scal < length s) × (v < 2 ^ 32)
+  scal-ready e = (omega (arith, rw e at (ready .not-full), ready .room .room-scal), rw e at (ready .low))
+
+  pub scal-added : w ≡ Scal → {s2 : List ℕ} {n : ℕ} → (n ≡ u .scal + 1) × (s2 ≡ set s (u .scal) v) → Added w v u d p s m (record { «data» = u .«data»; plan = u .plan; scal = n; dual = u .dual }) d p s2 m
+  scal-added e q =
+      let free = scal-ready e .0 in
+      rw e (record { added = ap (withScal (listsIn u d p s m)) (take-put s (u .scal) v q free); still-within = search needs; one-more = q .0 })
+
+  pub dual-ready : w ≡ Dual → u .dual < length m
+  dual-ready e = omega (arith, rw e at (ready .not-full), ready .room .room-dual)
+
+  pub dual-added : w ≡ Dual → {m2 : List ℤ} {n : ℕ} → (n ≡ u .dual + 1) × (m2 ≡ set m (u .dual) (signed v)) → Added w v u d p s m (record { «data» = u .«data»; plan = u .plan; scal = u .scal; dual = n }) d p s m2
+  dual-added e q =
+      let free = dual-ready e in
+      rw e (record { added = ap (withDual (listsIn u d p s m)) (take-put m (u .dual) (signed v) q free); still-within = search needs; one-more = q .0 })
+
+  pub other-full : w ≡ Other → ⊥
+  other-full e = omega (arith, rw e at (ready .not-full))
 
 -- new buffers
 pub room-new : Room (replicate mostData 0) (replicate mostPlan 0) (replicate mostScal 0) (replicate mostDual (pos 0))

@@ -3,6 +3,12 @@ pub mod input;
 pub mod lines;
 pub mod numbers;
 
+// The most numbers of each word on all its lines.
+pub const MOST_DATA: usize = 4096;
+pub const MOST_PLAN: usize = 2048;
+pub const MOST_SCAL: usize = 1;
+pub const MOST_DUAL: usize = 4096;
+
 // The word that a line opens with.
 pub enum Word {
     Data,
@@ -16,12 +22,6 @@ pub enum Word {
 pub enum Number {
     Value(u64),
     NoNumber,
-}
-
-// How many numbers of a word its buffer holds with those of a line, or none where that line is a Frame.
-pub enum Joined {
-    Upto(usize),
-    NotJoined,
 }
 
 // How many numbers of each word its buffer holds.

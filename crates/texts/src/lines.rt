@@ -1,25 +1,26 @@
-// One line: its word, and its numbers joined to those of the word's earlier lines.
-use crate::Joined;
+// One line: its word, and its numbers behind those of the word's earlier lines.
 use crate::Line;
+use crate::MOST_DATA;
+use crate::MOST_DUAL;
+use crate::MOST_PLAN;
+use crate::MOST_SCAL;
 use crate::Number;
 use crate::Used;
 use crate::Word;
 use crate::numbers::number_at;
 use crate::numbers::signed_of;
 ghost use mathlib.Core.Path.{_≡_};
-ghost use Prim.Native.Nat.{_≤_};
-ghost use lib.ListN.{length, take};
-ghost use Rattle.texts.specs.Buffers.{held, Inside, listsIn, lineIn, Room, Within, LineWithin};
-ghost use Rattle.texts.specs.Format.{opensWith, wordOf, count, join, plain, signed, digits, dualDigits, addLine};
+ghost use Prim.Native.Nat.{_+_, _^_, _≤_, _<_};
+ghost use lib.ListN.{length, set};
+ghost use Rattle.texts.specs.Buffers.{digitsOf, mostOf, usedOf, Ready, Added, listsIn, lineIn, Room, Within, LineWithin};
+ghost use Rattle.texts.specs.Format.{opensWith, wordOf, count, addLine};
 
 const WORD_LENGTH: usize = 4;
 const MOST_ON_LINE: usize = 64;
 
-// The digits of a number, and its bytes with the space before it: on lines of DATA, PLAN and SCAL, and on lines of DUAL.
+// The digits of a number: on lines of DATA, PLAN and SCAL, and on lines of DUAL.
 const DIGITS: usize = 8;
-const NUMBER: usize = 9;
 const DUAL_DIGITS: usize = 16;
-const DUAL_NUMBER: usize = 17;
 
 // Whether the line's first four bytes are the word's.
 fn opens(line: &[u8], word: &[u8; 4]) -> bool
@@ -77,50 +78,75 @@ fn count_on(bytes: usize, width: usize) -> usize
     numbers / size
 }
 
-// The numbers of a line of DATA, PLAN or SCAL, behind the first `used` in the buffer.
-fn join_unsigned(line: &[u8], buffer: &mut [u32], used: usize) -> Joined
-    requires { ⌜ used ≤ length (now buffer) ⌝ }
-    ensures { λ r. ⌜ (held r (now (buffer .exit)) ≡ join plain digits (length (now (buffer .entry))) (take used (now (buffer .entry))) (now (line .entry))) × Inside r (length (now (buffer .entry))) ⌝ }
+// The digits of a number on a line of the word.
+fn digits_of(word: Word) -> usize
+    ensures { λ r. ⌜ (r ≡ digitsOf word) × (r ≤ 16) ⌝ }
 {
-    let n = count_on(line.len(), DIGITS);
-    if n == 0 {
-        return Joined::NotJoined;
+    match word {
+        Word::Data => DIGITS,
+        Word::Plan => DIGITS,
+        Word::Scal => DIGITS,
+        Word::Dual => DUAL_DIGITS,
+        Word::Other => DIGITS,
     }
-    if buffer.len() - used < n {
-        return Joined::NotJoined;
-    }
-    let mut i = 0;
-    while i < n {
-        let Number::Value(v) = number_at(line, WORD_LENGTH + i * NUMBER, DIGITS) else {
-            return Joined::NotJoined;
-        };
-        buffer[used + i] = v as u32;
-        i += 1;
-    }
-    Joined::Upto(used + n)
 }
 
-// The numbers of a line of DUAL, behind the first `used` in the buffer.
-fn join_signed(line: &[u8], buffer: &mut [i64], used: usize) -> Joined
-    requires { ⌜ used ≤ length (now buffer) ⌝ }
-    ensures { λ r. ⌜ (held r (now (buffer .exit)) ≡ join signed dualDigits (length (now (buffer .entry))) (take used (now (buffer .entry))) (now (line .entry))) × Inside r (length (now (buffer .entry))) ⌝ }
+// The most numbers of the word on all its lines; another word has none.
+fn most_of(word: Word) -> usize
+    ensures { λ r. ⌜ r ≡ mostOf word ⌝ }
 {
-    let n = count_on(line.len(), DUAL_DIGITS);
-    if n == 0 {
-        return Joined::NotJoined;
+    match word {
+        Word::Data => MOST_DATA,
+        Word::Plan => MOST_PLAN,
+        Word::Scal => MOST_SCAL,
+        Word::Dual => MOST_DUAL,
+        Word::Other => 0,
     }
-    if buffer.len() - used < n {
-        return Joined::NotJoined;
+}
+
+// How many numbers of the word its buffer holds.
+fn used_of(word: Word, used: Used) -> usize
+    ensures { λ r. ⌜ r ≡ usedOf word used ⌝ }
+{
+    match word {
+        Word::Data => used.data,
+        Word::Plan => used.plan,
+        Word::Scal => used.scal,
+        Word::Dual => used.dual,
+        Word::Other => 0,
     }
-    let mut i = 0;
-    while i < n {
-        let Number::Value(v) = number_at(line, WORD_LENGTH + i * DUAL_NUMBER, DUAL_DIGITS) else {
-            return Joined::NotJoined;
-        };
-        buffer[used + i] = signed_of(v);
-        i += 1;
+}
+
+// A number behind the first `used` of a buffer of 32-bit numbers; how many it holds then.
+fn put_unsigned(buffer: &mut [u32], used: usize, v: u64) -> usize
+    requires { ⌜ (used < length (now buffer)) × (v < 2 ^ 32) ⌝ }
+    ensures { λ r. ⌜ (r ≡ used + 1) × (now (buffer .exit) ≡ set (now (buffer .entry)) used v) ⌝ }
+{
+    buffer[used] = v as u32;
+    used + 1
+}
+
+// The same for a buffer of signed numbers.
+fn put_signed(buffer: &mut [i64], used: usize, v: i64) -> usize
+    requires { ⌜ used < length (now buffer) ⌝ }
+    ensures { λ r. ⌜ (r ≡ used + 1) × (now (buffer .exit) ≡ set (now (buffer .entry)) used v) ⌝ }
+{
+    buffer[used] = v;
+    used + 1
+}
+
+// One more number of the word, behind those that its buffer holds.
+fn add_number(word: Word, v: u64, used: Used, data: &mut [u32], plan: &mut [u32], scal: &mut [u32], dual: &mut [i64]) -> Used
+    requires { ⌜ Ready word v used (now «data») (now plan) (now scal) (now dual) ⌝ }
+    ensures { λ r. ⌜ Added word v used (now («data» .entry)) (now (plan .entry)) (now (scal .entry)) (now (dual .entry)) r (now («data» .exit)) (now (plan .exit)) (now (scal .exit)) (now (dual .exit)) ⌝ }
+{
+    match word {
+        Word::Data => Used { data: put_unsigned(data, used.data, v), plan: used.plan, scal: used.scal, dual: used.dual },
+        Word::Plan => Used { data: used.data, plan: put_unsigned(plan, used.plan, v), scal: used.scal, dual: used.dual },
+        Word::Scal => Used { data: used.data, plan: used.plan, scal: put_unsigned(scal, used.scal, v), dual: used.dual },
+        Word::Dual => Used { data: used.data, plan: used.plan, scal: used.scal, dual: put_signed(dual, used.dual, signed_of(v)) },
+        Word::Other => used, // never reached: there is no room for a number of another word
     }
-    Joined::Upto(used + n)
 }
 
 // The numbers of a line, behind those that its word's buffer holds.
@@ -128,31 +154,23 @@ pub fn read_line(line: &[u8], used: Used, data: &mut [u32], plan: &mut [u32], sc
     requires { ⌜ Room (now «data») (now plan) (now scal) (now dual) × Within used ⌝ }
     ensures { λ r. ⌜ (lineIn r (now («data» .exit)) (now (plan .exit)) (now (scal .exit)) (now (dual .exit)) ≡ addLine (now (line .entry)) (listsIn used (now («data» .entry)) (now (plan .entry)) (now (scal .entry)) (now (dual .entry)))) × LineWithin r ⌝ }
 {
-    match word_of(line) {
-        Word::Data => {
-            let Joined::Upto(n) = join_unsigned(line, data, used.data) else {
-                return Line::NoLine;
-            };
-            Line::Read(Used { data: n, plan: used.plan, scal: used.scal, dual: used.dual })
-        }
-        Word::Plan => {
-            let Joined::Upto(n) = join_unsigned(line, plan, used.plan) else {
-                return Line::NoLine;
-            };
-            Line::Read(Used { data: used.data, plan: n, scal: used.scal, dual: used.dual })
-        }
-        Word::Scal => {
-            let Joined::Upto(n) = join_unsigned(line, scal, used.scal) else {
-                return Line::NoLine;
-            };
-            Line::Read(Used { data: used.data, plan: used.plan, scal: n, dual: used.dual })
-        }
-        Word::Dual => {
-            let Joined::Upto(n) = join_signed(line, dual, used.dual) else {
-                return Line::NoLine;
-            };
-            Line::Read(Used { data: used.data, plan: used.plan, scal: used.scal, dual: n })
-        }
-        Word::Other => Line::NoLine,
+    let word = word_of(line);
+    let width = digits_of(word);
+    let n = count_on(line.len(), width);
+    if n == 0 {
+        return Line::NoLine;
     }
+    if most_of(word) - used_of(word, used) < n {
+        return Line::NoLine;
+    }
+    let mut filled = used;
+    let mut i = 0;
+    while i < n {
+        let Number::Value(v) = number_at(line, WORD_LENGTH + i * (width + 1), width) else {
+            return Line::NoLine;
+        };
+        filled = add_number(word, v, filled, data, plan, scal, dual);
+        i += 1;
+    }
+    Line::Read(filled)
 }

@@ -1,12 +1,14 @@
 -- Laws of words added to a line, and of names in a list.
+use mathlib.Core.Bool.{Bool, true, false, cond}
 use mathlib.Core.Path.{_≡_, refl, sym, ap, _∙_}
 use mathlib.Core.List.{List, [], _∷_, _++_, append-assoc, append-nil}
 use Prim.Native.Nat.{ℕ, zero, suc, _+_, _-_, _≤_, _<_}
 use native.Mathlib.Nat.{zero-add}
 use native.Mathlib.Numerals.{add-one}
 use native.Mathlib.Omega.{arith}
+use lib.Dec.{eqb}
 use lib.ListN.{length, getD, set, take, drop, length-set, length-drop, take-append-drop, drop-of-length-le}
-use lib.Seq.{length-take-le, take-all, take-suc, drop-cons, append-snoc, take-at, take-suc-set, getD-drop, length-sets, sets-eq}
+use lib.Seq.{length-take-le, take-all, take-suc, drop-cons, drop-drop, append-snoc, take-at, take-suc-set, getD-drop, length-sets, sets-eq}
 use borrow.Author.Tests.{eq-eqb, ne-eqb}
 use Rattle.answer_line.specs.Place.{Put}
 use Rattle.writer.specs.Writing.{room, Said}
@@ -125,27 +127,28 @@ name-start l from = let e : from - from ≡ 0 = omega arith in rw e
 
 -- The names behind the first.
 
-past-byte : {b : ℕ} (bs : List ℕ) → (b ≡ slash → ⊥) → otherNames (b ∷ bs) ≡ otherNames bs
-unfolding otherNames
-past-byte {b} bs f = rw (ne-eqb b slash f)
+others-behind : (l : List ℕ) → otherNames l ≡ drop (suc (length (firstName l))) l
+unfolding firstName otherNames
+others-behind [] = refl
+others-behind (b ∷ bs) = go (eqb b slash) (others-behind bs)
+  where
+    go : (f : Bool) → otherNames bs ≡ drop (suc (length (firstName bs))) bs → cond f bs (otherNames bs) ≡ drop (suc (length (cond f [] (b ∷ firstName bs)))) (b ∷ bs)
+    go true e = refl
+    go false e = e
 
-past-slash : {b : ℕ} (bs : List ℕ) → b ≡ slash → otherNames (b ∷ bs) ≡ bs
-unfolding otherNames
-past-slash {b} bs f = rw (eq-eqb b slash f)
+-- the first name from `from` on ends at `end`
+module _ (l : List ℕ) {from end : ℕ} (f : (from ≤ end) × ((end ≤ length l) × (take (end - from) (drop from l) ≡ firstName (drop from l)))) where
+  pub others-found : drop (end + 1) l ≡ otherNames (drop from l)
+  others-found =
+      let n : suc (length (firstName (drop from l))) ≡ suc (end - from) = ap (λ (k : List ℕ). suc (length k)) (sym (f .1 .1)) ∙ ap suc (length-take-le (end - from) (drop from l) (omega (arith, f .0, f .1 .0, length-drop from l))) in
+      let p : from + suc (end - from) ≡ end + 1 = omega (arith, f .0) in
+      sym (others-behind (drop from l) ∙ rw (n, drop-drop, p))
 
-past-end : otherNames [] ≡ []
-unfolding otherNames
-past-end = refl
-
-module _ (l : List ℕ) (i : ℕ) {others : List ℕ} (so : otherNames (drop i l) ≡ others) where
-  pub others-on : i < length l → (getD l i 0 ≡ slash → ⊥) → otherNames (drop (i + 1) l) ≡ others
-  others-on k e = rw (add-one i) (sym (past-byte (drop (suc i) l) e) ∙ rw (← drop-cons l i 0 k) so)
-
-  pub others-found : i < length l → getD l i 0 ≡ slash → drop (i + 1) l ≡ others
-  others-found k e = rw (add-one i) (sym (past-slash (drop (suc i) l) e) ∙ rw (← drop-cons l i 0 k) so)
-
-  pub others-none : length l ≤ i → drop i l ≡ others
-  others-none k = let e = drop-of-length-le l k in e ∙ sym past-end ∙ (rw e at so)
+  pub others-none : end ≡ length l → drop end l ≡ otherNames (drop from l)
+  others-none e =
+      let h : length l ≤ end = omega (arith, e) in
+      let k : length l ≤ end + 1 = omega (arith, e) in
+      drop-of-length-le l h ∙ sym (drop-of-length-le l k) ∙ others-found
 
 -- The name of number k.
 

@@ -1,5 +1,6 @@
 // Words and numbers written one behind another into a line of fixed room. What has no room is left out.
 use answer_line::put_decimal;
+ghost use mathlib.Core.Bool.{cond};
 ghost use mathlib.Core.Path.{_≡_};
 ghost use mathlib.Core.List.{_++_};
 ghost use Prim.Native.Nat.{_-_, _≤_};
@@ -56,6 +57,17 @@ pub fn say_with(line: &mut [u8; ROOM], at: usize, words: &[u8], number: u64) -> 
     say_number(line, after_words, number)
 }
 
+// Adds the words `yes` where a test held, else the words `no`.
+pub fn say_either(line: &mut [u8; ROOM], at: usize, holds: bool, yes: &[u8], no: &[u8]) -> usize
+    requires { ⌜ Started (now line) at ⌝ }
+    ensures { λ r. ⌜ Said (now (line .entry)) at (cond holds (now (yes .entry)) (now (no .entry))) r (now (line .exit)) ⌝ }
+{
+    if holds {
+        return say(line, at, yes);
+    }
+    say(line, at, no)
+}
+
 // The place of the first slash from `from` on, or the list's length.
 fn name_end(names: &[u8], from: usize) -> usize
     requires { ⌜ from ≤ length (now names) ⌝ }
@@ -76,14 +88,11 @@ fn next_name(names: &[u8], from: usize) -> usize
     requires { ⌜ from ≤ length (now names) ⌝ }
     ensures { λ r. ⌜ (r ≤ length (now (names .entry))) × (drop r (now (names .entry)) ≡ otherNames (drop from (now (names .entry)))) ⌝ }
 {
-    let mut i = from;
-    while i < names.len() {
-        if names[i] == SLASH {
-            return i + 1;
-        }
-        i += 1;
+    let end = name_end(names, from);
+    if end == names.len() {
+        return end;
     }
-    i
+    end + 1
 }
 
 // Where a list of names holds the name of number `k`.

@@ -6,6 +6,7 @@ use Rattle.model.specs.Families.{rowBoxes}
 use Rattle.data_tests.proofs.Passed.{passed-long, sound-head, counts-sound, counts-read}
 use Rattle.writer.proofs.Laws.{said-joined, said-same}
 use Rattle.figures.proofs.Laws.{row-inside, counted-alike}
+use Rattle.sentences.specs.Sentences.{ruleWords}
 use Rattle.sentences.proofs.Laws.{numbered-asked, broken-is}
 use borrow.Author.Needs.{needs}
 use Rattle.sentences.proofs.row_words.say_broken.Statement.{statement}
@@ -36,21 +37,28 @@ say-row-requires c κs =
 say-sums-requires : tie.Need-say-sums-requires
 say-sums-requires c κs = search needs
 
-say-rule-requires : tie.Need-say-rule-requires
-say-rule-requires c κs = search needs
+slice-aggregate-say-either : tie.Need-slice-aggregate-say-either
+slice-aggregate-say-either c = search needs
+
+slice-aggregate-say-either-2 : tie.Need-slice-aggregate-say-either-2
+slice-aggregate-say-either-2 c = search needs
+
+say-either-requires : tie.Need-say-either-requires
+say-either-requires c κs = search needs
 
 returns : tie.Need-returns
+unfolding ruleWords
 returns c =
-    let a = c .before .before .before .before .before .before .before .before .before .before .before .before .args in
-    let counts = c .before .before .before .before .before .before .before .before .before .counts-of .ensures in
-    let place = c .before .before .before .before .before .before .before .before .row-place .ensures in
-    let figures = c .before .before .before .before .before .before .row-figures .ensures in
-    let family = c .before .before .before .before .before .before .before .family-at .ensures in
+    let a = c .before .before .before .before .before .before .before .before .before .before .before .before .before .before .args in
+    let counts = c .before .before .before .before .before .before .before .before .before .before .before .counts-of .ensures in
+    let place = c .before .before .before .before .before .before .before .before .before .before .row-place .ensures in
+    let figures = c .before .before .before .before .before .before .before .before .row-figures .ensures in
+    let family = c .before .before .before .before .before .before .before .before .before .family-at .ensures in
     said-same
     (broken-is (a .«data» .now) counts (a .row) place (a .scale) (entries (read (a .«data» .now)) (a .plan .now)) figures family)
-    (said-joined (c .before .before .before .before .say-row .ensures)
-    (said-joined (c .before .before .say-sums .ensures)
-    (c .say-rule .ensures)))
+    (said-joined (c .before .before .before .before .before .before .say-row .ensures)
+    (said-joined (c .before .before .before .before .say-sums .ensures)
+    (c .say-either .ensures)))
 
 pub say-broken-spec : {M : Type 1} → statement M
 say-broken-spec =
@@ -62,5 +70,7 @@ say-broken-spec =
     row-figures-requires
     say-row-requires
     say-sums-requires
-    say-rule-requires
+    slice-aggregate-say-either
+    slice-aggregate-say-either-2
+    say-either-requires
     returns)

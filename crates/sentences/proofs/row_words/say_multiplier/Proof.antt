@@ -2,6 +2,7 @@ use Rattle.figures.proofs.Laws.{row-inside}
 use Rattle.model.specs.Families.{rowBoxes}
 use Rattle.data_tests.proofs.Passed.{passed-long, sound-head, counts-sound, counts-read}
 use Rattle.writer.proofs.Laws.{said-joined, said-same}
+use Rattle.sentences.specs.Sentences.{multiplierRule}
 use Rattle.sentences.proofs.Laws.{numbered-asked, multiplier-is}
 use borrow.Author.Needs.{needs}
 use Rattle.sentences.proofs.row_words.say_multiplier.Statement.{statement}
@@ -35,22 +36,29 @@ multiplier-in-requires c κs = search needs
 say-signed-requires : tie.Need-say-signed-requires
 say-signed-requires c κs = search needs
 
-say-multiplier-rule-requires : tie.Need-say-multiplier-rule-requires
-say-multiplier-rule-requires c κs = search needs
+slice-aggregate-say-either : tie.Need-slice-aggregate-say-either
+slice-aggregate-say-either c = search needs
+
+slice-aggregate-say-either-2 : tie.Need-slice-aggregate-say-either-2
+slice-aggregate-say-either-2 c = search needs
+
+say-either-requires : tie.Need-say-either-requires
+say-either-requires c κs = search needs
 
 returns : tie.Need-returns
+unfolding multiplierRule
 returns c =
-    let a = c .before .before .before .before .before .before .before .before .before .before .before .before .before .before .args in
-    let counts = c .before .before .before .before .before .before .before .before .before .before .before .before .counts-of .ensures in
-    let place = c .before .before .before .before .before .before .before .before .before .before .before .row-place .ensures in
-    let multiplier = c .before .before .before .multiplier-in .ensures in
-    let family = c .before .before .before .before .before .before .before .before .before .before .family-at .ensures in
+    let a = c .before .before .before .before .before .before .before .before .before .before .before .before .before .before .before .before .args in
+    let counts = c .before .before .before .before .before .before .before .before .before .before .before .before .before .before .counts-of .ensures in
+    let place = c .before .before .before .before .before .before .before .before .before .before .before .before .before .row-place .ensures in
+    let multiplier = c .before .before .before .before .before .multiplier-in .ensures in
+    let family = c .before .before .before .before .before .before .before .before .before .before .before .before .family-at .ensures in
     said-same
     (multiplier-is (a .«data» .now) counts (a .row) place (a .multipliers .now) multiplier family)
-    (said-joined (c .before .before .before .before .before .before .before .before .say-row .ensures)
-    (said-joined (c .before .before .before .before .before .say .ensures)
-    (said-joined (c .before .before .say-signed .ensures)
-    (c .say-multiplier-rule .ensures))))
+    (said-joined (c .before .before .before .before .before .before .before .before .before .before .say-row .ensures)
+    (said-joined (c .before .before .before .before .before .before .before .say .ensures)
+    (said-joined (c .before .before .before .before .say-signed .ensures)
+    (c .say-either .ensures))))
 
 pub say-multiplier-spec : {M : Type 1} → statement M
 say-multiplier-spec =
@@ -64,5 +72,7 @@ say-multiplier-spec =
     say-requires
     multiplier-in-requires
     say-signed-requires
-    say-multiplier-rule-requires
+    slice-aggregate-say-either
+    slice-aggregate-say-either-2
+    say-either-requires
     returns)
