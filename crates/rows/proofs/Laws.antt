@@ -14,20 +14,17 @@ use Rattle.capped.specs.declared.Sum.{Sum}
 use Rattle.capped.specs.Cap.{cap, plus, plusIf, both}
 use Rattle.capped.proofs.Laws.{plus-cap, both-cap, le-or-lt}
 use Rattle.sums.specs.Sum.{sum, on}
-use Rattle.sums.specs.declared.Box.{Box}
-use Rattle.sums.specs.Index.{index, boxOf}
+use Rattle.sums.specs.Index.{index}
 use Rattle.sums.proofs.Sums.{sum-cong}
 use Rattle.model.specs.declared.Counts.{Counts}
-use Rattle.model.specs.Counts.{sets, slicesOf, [yzs]}
-use Rattle.model.specs.Families.{familyOf, familyCount}
+use Rattle.model.specs.Counts.{slicesOf, [yzs]}
 use Rattle.tables.specs.Layout.{Inside, planEntry}
 use Rattle.parts.specs.Years.{YearPart}
 use Rattle.parts.proofs.Laws.{after-first}
 use Rattle.terms.proofs.Laws.{plus-on}
 use Rattle.constants.specs.declared.Constant.{Constant}
-use Rattle.constants.proofs.Laws.{inside-at}
 use Rattle.rows.specs.declared.Sides.{Sides}
-use Rattle.rows.specs.Ready.{Ready, sidesWith, noSides}
+use Rattle.rows.specs.Ready.{sides, sidesWith}
 
 -- Sums
 
@@ -54,26 +51,34 @@ nothing-plus u e = e ∙ ap cap (sym (zero-add u))
 pub plus-if-is : {r s : Sum} {n v : ℕ} (b : Bool) (m a : ℕ) → r ≡ plusIf b s (a * n) → s ≡ cap m → n ≡ v → r ≡ cap (m + on b (a * v))
 plus-if-is {v = v} b m a e h q = e ∙ rw (h, q) (plus-on b m (a * v))
 
+-- an entry of a year's part is the plan's
+pub part-entry : {plan part : List ℕ} {c : Counts} {t y g s : ℕ} → YearPart plan part c t y → g < c .plants → s < slicesOf c
+    → {r : Sum} → r ≡ cap (1000 * getD part (g * slicesOf c + s) 0) → r ≡ cap (1000 * planEntry c plan (index t y g 0 s))
+part-entry p hg hs e = e ∙ ap (λ (v : ℕ). cap (1000 * v)) (p .is _ _ hg hs)
+
 -- a year's part stands for the plan, in a sum over the plants for which w stands for z
 pub part-sum : {plan part : List ℕ} {c : Counts} {t y s : ℕ} → YearPart plan part c t y → s < slicesOf c
     → {r : Sum} {w z : ℕ} (F : ℕ → ℕ → ℕ → ℕ) → r ≡ cap (sum (c .plants) (λ g. F w g (getD part (g * slicesOf c + s) 0))) → w ≡ z
     → r ≡ cap (sum (c .plants) (λ g. F z g (planEntry c plan (index t y g 0 s))))
 part-sum p h {z = z} F e q = e ∙ rw q (ap cap (sum-cong _ (λ g l. ap (F z g) (p .is g _ l h))))
 
--- A row's two sums: without a constant, with one, and where its condition fails
+-- A row's two sums, without a constant, with one, and with a limit that alone stands against them
 
-module _ (N u v : ℕ) {a b : Sum} where
-  pub plain : a ≡ cap u → b ≡ cap v → _≡_ {A = Sides} (record { above = a; below = b }) (record { above = cap (u + N * (0 - 0)); below = cap (v + N * (0 - 0)) })
-  plain h k = rw (h, k, mul-zero, add-zero u, add-zero v)
+pub two-sums : (u v : ℕ) {a b : Sum} → a ≡ cap u → b ≡ cap v → _≡_ {A = Sides} (record { above = a; below = b }) (sides u v)
+two-sums u v h k = rw (h, k)
 
-  pub constant : {r : Sides} {k K : Constant} → r ≡ sidesWith a b N k → k ≡ K → a ≡ cap u → b ≡ cap v
-      → r ≡ record { above = cap (u + N * (K .adds - K .takes)); below = cap (v + N * (K .takes - K .adds)) }
+module _ (N u v : ℕ) {r : Sides} where
+  pub plain : r ≡ sides u v → r ≡ sides (u + N * (0 - 0)) (v + N * (0 - 0))
+  plain e = e ∙ rw (mul-zero, add-zero u, add-zero v)
+
+  pub constant : {a b : Sum} {k K : Constant} → r ≡ sidesWith a b N k → k ≡ K → a ≡ cap u → b ≡ cap v
+      → r ≡ sides (u + N * (K .adds - K .takes)) (v + N * (K .takes - K .adds))
   unfolding sidesWith
   constant e q h k = e ∙ rw (q, h, k, plus-cap u, plus-cap v)
 
-pub no-terms : (N : ℕ) {r : Sides} → r ≡ noSides → r ≡ record { above = cap (0 + N * (0 - 0)); below = cap (0 + N * (0 - 0)) }
-unfolding noSides
-no-terms N e = e ∙ plain N 0 0 refl refl
+pub limit : (N v : ℕ) {r : Sides} {b : Sum} {k K : Constant} → r ≡ sidesWith (cap 0) b N k → k ≡ K → b ≡ cap v
+    → r ≡ sides (0 + N * (K .adds - K .takes)) (v + N * (K .takes - K .adds))
+limit N v e q h = constant N 0 v e q refl h
 
 -- Tests
 
@@ -115,22 +120,3 @@ module _ {r : Bool} {kind year K Y : ℕ} (now : ℕ) (e : r ≡ not (out kind y
 
 pub zone-slice : {c : Counts} {y z s : ℕ} → y < c .years → z < c .zones → s < slicesOf c → Inside c [yzs] y z 0 s
 zone-slice hy hz hs = record { year = hy; «first» = hz; second = omega arith; slice = hs }
-
--- The dispatcher: what an arm knows of the four indices, by its key
-
--- the arms of the families with a year, a first index and a slice, and of those with a year and a first index
-module _ {l plan os rs : List ℕ} {energy : List (List ℕ)} {tables-at columns-at : List ℕ} {c : Counts} {k y i j s : ℕ} (K : ℕ) (e : k ≡ K)
-    (p : Ready l plan os rs energy tables-at columns-at c y × ((k < familyCount) × Inside c (familyOf k .set) y i j s)) where
-  abbrev own : Box
-  own = boxOf (sets c) (familyOf K .set)
-
-  pub by-slice : Ready l plan os rs energy tables-at columns-at c y × ((y < own .years) × ((i < own .firsts) × (s < own .slices)))
-  by-slice = let m = inside-at K e (p .1 .1) in (p .0, (m .year, (m .first, m .slice)))
-
-  pub by-first : Ready l plan os rs energy tables-at columns-at c y × ((y < own .years) × (i < own .firsts))
-  by-first = let m = inside-at K e (p .1 .1) in (p .0, (m .year, m .first))
-
--- what the row functions of families 15 and 18, which have no year, work on
-pub first-year : {l plan os rs : List ℕ} {energy : List (List ℕ)} {tables-at columns-at : List ℕ} {c : Counts} {y : ℕ} → y < 1 → Ready l plan os rs energy tables-at columns-at c y
-    → Ready l plan os rs energy tables-at columns-at c 0
-first-year {y = y} h r = let z : y ≡ 0 = omega arith in rw z at r

@@ -16,7 +16,7 @@ use Rattle.energy.specs.Energies.{Energies}
 use Rattle.constants.specs.declared.Constant.{Constant}
 use Rattle.rows.specs.declared.Sides.{Sides}
 
--- data and plan as laid out and tested, and the parts made of them
+-- what the rows of every family work on: data and plan as laid out and tested, the parts of year y, and the energies
 pub record Ready (l plan os rs : List ℕ) (energy : List (List ℕ)) (tables-at columns-at : List ℕ) (c : Counts) (y : ℕ) : Type 0 where
   pub tablesAt : TablesAt l tables-at c
   pub sound : entriesFault (read l) ≡ fine
@@ -25,15 +25,15 @@ pub record Ready (l plan os rs : List ℕ) (energy : List (List ℕ)) (tables-at
   pub reserves : YearPart plan rs c 4 y
   pub energies : Energies (read l) (planEntry c plan) energy c
 
--- a row's two sums, as the code has them; opened down to the family's equation, so that a proof names one definition
+-- two numbers, each as a capped sum
+abbrev pub sides : ℕ → ℕ → Sides
+sides a b = record { above = cap a; below = cap b }
+
+-- a row's two sums; opened down to the family's equation, so that a proof names one definition
 unfoldable pub sidesOf : Data → ℕ → (Index → ℕ) → Index → Sides
 unfolding above below constant⁺ constant⁻ equation
-sidesOf D N x r = record { above = cap (above D N x r); below = cap (below D N x r) }
+sidesOf D N x r = sides (above D N x r) (below D N x r)
 
 -- two sums and a constant that adds and takes off, like terms brought together
 unfoldable pub sidesWith : Sum → Sum → ℕ → Constant → Sides
 sidesWith a b N k = record { above = plus a (N * (k .adds - k .takes)); below = plus b (N * (k .takes - k .adds)) }
-
--- 0 ≥ 0
-unfoldable pub noSides : Sides
-noSides = record { above = cap 0; below = cap 0 }

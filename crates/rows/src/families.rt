@@ -22,43 +22,50 @@ use crate::zones::spinning;
 use crate::zones::transfer;
 use energy::totals::EnergyTable;
 use model::Counts;
+use sums::Place;
 use tables::starts::Starts;
 ghost use mathlib.Core.Path.{_≡_};
 ghost use Prim.Native.Nat.{_<_};
-ghost use Rattle.sums.specs.Index.{index};
+ghost use Rattle.sums.specs.Index.{indexOf};
 ghost use Rattle.model.specs.Data.{read};
 ghost use Rattle.model.specs.Families.{familyOf, familyCount};
 ghost use Rattle.tables.specs.Layout.{Inside, planEntry};
 ghost use Rattle.rows.specs.Ready.{Ready, sidesOf};
 
-// Family `k`, counted from 0, year `y`, first index `i`, second index `j` and slice `s`.
+// The kind of `p` is the row's family, counted from 0.
 pub fn row_sides(
     data: &[u32], plan: &[u32], outputs: &[u32], reserves: &[u32], energy: &EnergyTable, tables_at: &Starts,
-    columns_at: &Starts, c: Counts, scale: u64, k: usize, y: usize, i: usize, j: usize, s: usize,
+    columns_at: &Starts, c: Counts, scale: u64, p: Place,
 ) -> Sides
-    requires { ⌜ Ready (now «data») (now plan) (now outputs) (now reserves) (now energy) (now «tables_at») (now «columns_at») c y × ((k < familyCount) × Inside c (familyOf k .set) y i j s) ⌝ }
-    ensures { λ r. ⌜ r ≡ sidesOf (read (now («data» .entry))) scale (planEntry c (now (plan .entry))) (index k y i j s) ⌝ }
+    requires { ⌜ Ready (now «data») (now plan) (now outputs) (now reserves) (now energy) (now «tables_at») (now «columns_at») c (p .year)
+        × ((p .kind < familyCount) × Inside c (familyOf (p .kind) .set) (p .year) (p .first) (p .second) (p .slice)) ⌝ }
+    ensures { λ r. ⌜ r ≡ sidesOf (read (now («data» .entry))) scale (planEntry c (now (plan .entry))) (indexOf p) ⌝ }
 {
+    let k = p.kind;
+    let y = p.year;
+    let i = p.first;
+    let j = p.second;
+    let s = p.slice;
     match k {
-        0 => balance(data, plan, outputs, reserves, energy, tables_at, columns_at, c, scale, y, i, s),
-        1 => transfer(data, plan, outputs, reserves, energy, tables_at, columns_at, c, scale, y, i, j, s),
-        2 => spinning(data, plan, outputs, reserves, energy, tables_at, columns_at, c, scale, y, i, s),
-        3 => firm(data, plan, outputs, reserves, energy, tables_at, columns_at, c, scale, y, i),
-        4 => loading(data, plan, outputs, reserves, energy, tables_at, columns_at, c, scale, y, i, s),
-        5 => offer(data, plan, outputs, reserves, energy, tables_at, columns_at, c, scale, y, i, s),
-        6 => ramp_down(data, plan, outputs, reserves, energy, tables_at, columns_at, c, scale, y, i, s),
-        7 => ramp_up(data, plan, outputs, reserves, energy, tables_at, columns_at, c, scale, y, i, s),
-        8 => minimum_load(data, plan, outputs, reserves, energy, tables_at, columns_at, c, scale, y, i, s),
-        9 => available(data, plan, outputs, reserves, energy, tables_at, columns_at, c, scale, y, i, s),
-        10 => profiled(data, plan, outputs, reserves, energy, tables_at, columns_at, c, scale, y, i, s),
-        11 => stock(data, plan, outputs, reserves, energy, tables_at, columns_at, c, scale, y, i),
-        12 => life(data, plan, outputs, reserves, energy, tables_at, columns_at, c, scale, y, i),
-        13 => fixed(data, plan, outputs, reserves, energy, tables_at, columns_at, c, scale, y, i),
-        14 => new_capacity(data, plan, outputs, reserves, energy, tables_at, columns_at, c, scale, i),
-        15 => yearly_build(data, plan, outputs, reserves, energy, tables_at, columns_at, c, scale, y, i),
-        16 => fuel_use(data, plan, outputs, reserves, energy, tables_at, columns_at, c, scale, y, i, j),
-        17 => capital(data, plan, outputs, reserves, energy, tables_at, columns_at, c, scale),
-        18 => zone_emission(data, plan, outputs, reserves, energy, tables_at, columns_at, c, scale, y, i),
-        _ => system_emission(data, plan, outputs, reserves, energy, tables_at, columns_at, c, scale, y),
+        0 => balance(data, plan, outputs, tables_at, columns_at, c, scale, y, i, s),
+        1 => transfer(data, plan, tables_at, columns_at, c, scale, y, i, j, s),
+        2 => spinning(data, plan, outputs, reserves, tables_at, columns_at, c, scale, y, i, s),
+        3 => firm(data, plan, tables_at, columns_at, c, scale, y, i),
+        4 => loading(data, plan, outputs, reserves, tables_at, columns_at, c, y, i, s),
+        5 => offer(data, plan, reserves, tables_at, columns_at, c, y, i, s),
+        6 => ramp_down(data, plan, outputs, tables_at, columns_at, c, y, i, s),
+        7 => ramp_up(data, plan, outputs, tables_at, columns_at, c, y, i, s),
+        8 => minimum_load(data, plan, outputs, tables_at, columns_at, c, y, i, s),
+        9 => available(data, plan, energy, tables_at, columns_at, c, y, i, s),
+        10 => profiled(data, plan, outputs, tables_at, columns_at, c, y, i, s),
+        11 => stock(data, plan, tables_at, columns_at, c, scale, y, i),
+        12 => life(data, plan, tables_at, columns_at, c, y, i),
+        13 => fixed(data, plan, tables_at, columns_at, c, y, i),
+        14 => new_capacity(data, plan, tables_at, columns_at, c, scale, i),
+        15 => yearly_build(data, plan, tables_at, columns_at, c, scale, y, i),
+        16 => fuel_use(data, energy, tables_at, c, scale, y, i, j),
+        17 => capital(data, plan, tables_at, columns_at, c, scale),
+        18 => zone_emission(data, energy, tables_at, c, scale, y, i),
+        _ => system_emission(data, energy, tables_at, c, scale, y),
     }
 }

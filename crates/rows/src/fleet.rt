@@ -1,5 +1,6 @@
 // Families 12 to 20: the rows of the fleet: capacity, builds, fuel, capital and emissions.
 use crate::Sides;
+use crate::two_sums::at_most;
 use crate::two_sums::empty;
 use crate::two_sums::with_constant;
 use capped::Sum;
@@ -28,22 +29,24 @@ use terms::plants::build_sum;
 use terms::plants::capital_sum;
 ghost use mathlib.Core.Path.{_≡_};
 ghost use mathlib.Core.Bool.{not, _&&_, _||_};
-ghost use Prim.Native.Nat.{_+_, _*_, _-_, _<_};
+ghost use Prim.Native.Nat.{ℕ, _+_, _*_, _-_, _<_};
 ghost use lib.Dec.{eqb, leb, ltb};
+ghost use lib.ListN.{length};
 ghost use Rattle.capped.specs.Cap.{cap};
 ghost use Rattle.sums.specs.Sum.{on};
+ghost use Rattle.sums.specs.Index.{Index};
 ghost use Rattle.model.specs.Data.{read};
 ghost use Rattle.model.specs.Families.{row};
 ghost use Rattle.model.specs.Columns.{cap as capColumn};
-ghost use Rattle.tables.specs.Layout.{Counted, ColumnsAt, planEntry};
-ghost use Rattle.rows.specs.Ready.{Ready, sidesOf};
+ghost use Rattle.tables.specs.Layout.{Counted, TablesAt, ColumnsAt, planEntry};
+ghost use Rattle.energy.specs.Energies.{Energies, energyCount};
+ghost use Rattle.rows.specs.Ready.{sidesOf};
 
 // 12 (34): existing, first year: cap = GenCap; later: cap = earlier cap − retire. Candidate: cap = earlier cap (0 in the first year) + build
 pub fn stock(
-    data: &[u32], plan: &[u32], outputs: &[u32], reserves: &[u32], energy: &EnergyTable, tables_at: &Starts,
-    columns_at: &Starts, c: Counts, scale: u64, y: usize, g: usize,
+    data: &[u32], plan: &[u32], tables_at: &Starts, columns_at: &Starts, c: Counts, scale: u64, y: usize, g: usize,
 ) -> Sides
-    requires { ⌜ Ready (now «data») (now plan) (now outputs) (now reserves) (now energy) (now «tables_at») (now «columns_at») c y × ((y < c .years) × (g < c .plants)) ⌝ }
+    requires { ⌜ TablesAt (now «data») (now «tables_at») c × (ColumnsAt (now plan) (now «columns_at») c × ((y < c .years) × (g < c .plants))) ⌝ }
     ensures { λ r. ⌜ r ≡ sidesOf (read (now («data» .entry))) scale (planEntry c (now (plan .entry))) (row 12 y g 0 0) ⌝ }
 {
     let own = capped::product(1, planned_by_year_plant(plan, columns_at, c, CAP, y, g));
@@ -68,12 +71,9 @@ pub fn stock(
 }
 
 // 13 (37): cap ≤ 0 for an existing plant from its retirement year on, for a candidate before its commission year
-pub fn life(
-    data: &[u32], plan: &[u32], outputs: &[u32], reserves: &[u32], energy: &EnergyTable, tables_at: &Starts,
-    columns_at: &Starts, c: Counts, scale: u64, y: usize, g: usize,
-) -> Sides
-    requires { ⌜ Ready (now «data») (now plan) (now outputs) (now reserves) (now energy) (now «tables_at») (now «columns_at») c y × ((y < c .years) × (g < c .plants)) ⌝ }
-    ensures { λ r. ⌜ r ≡ sidesOf (read (now («data» .entry))) scale (planEntry c (now (plan .entry))) (row 13 y g 0 0) ⌝ }
+pub fn life(data: &[u32], plan: &[u32], tables_at: &Starts, columns_at: &Starts, c: Counts, y: usize, g: usize) -> Sides
+    requires { ⌜ TablesAt (now «data») (now «tables_at») c × (ColumnsAt (now plan) (now «columns_at») c × ((y < c .years) × (g < c .plants))) ⌝ }
+    ensures { λ r. ⌜ ((N : ℕ) → r ≡ sidesOf (read (now («data» .entry))) N (planEntry c (now (plan .entry))) (row 13 y g 0 0)) ⌝ }
 {
     if in_service(
         by_plant(data, tables_at, c, KIND, g),
@@ -89,12 +89,9 @@ pub fn life(
 }
 
 // 14 (61): existing: in the first year build + retire ≤ 0, later build ≤ 0; candidate: retire ≤ 0
-pub fn fixed(
-    data: &[u32], plan: &[u32], outputs: &[u32], reserves: &[u32], energy: &EnergyTable, tables_at: &Starts,
-    columns_at: &Starts, c: Counts, scale: u64, y: usize, g: usize,
-) -> Sides
-    requires { ⌜ Ready (now «data») (now plan) (now outputs) (now reserves) (now energy) (now «tables_at») (now «columns_at») c y × ((y < c .years) × (g < c .plants)) ⌝ }
-    ensures { λ r. ⌜ r ≡ sidesOf (read (now («data» .entry))) scale (planEntry c (now (plan .entry))) (row 14 y g 0 0) ⌝ }
+pub fn fixed(data: &[u32], plan: &[u32], tables_at: &Starts, columns_at: &Starts, c: Counts, y: usize, g: usize) -> Sides
+    requires { ⌜ TablesAt (now «data») (now «tables_at») c × (ColumnsAt (now plan) (now «columns_at») c × ((y < c .years) × (g < c .plants))) ⌝ }
+    ensures { λ r. ⌜ ((N : ℕ) → r ≡ sidesOf (read (now («data» .entry))) N (planEntry c (now (plan .entry))) (row 14 y g 0 0)) ⌝ }
 {
     let retire = planned_by_year_plant(plan, columns_at, c, RETIRE, y, g);
     if by_plant(data, tables_at, c, KIND, g) != 0 {
@@ -111,18 +108,14 @@ pub fn fixed(
 }
 
 // 15 (55), candidate: Σ build ≤ MaxNewCap
-pub fn new_capacity(
-    data: &[u32], plan: &[u32], outputs: &[u32], reserves: &[u32], energy: &EnergyTable, tables_at: &Starts,
-    columns_at: &Starts, c: Counts, scale: u64, g: usize,
-) -> Sides
-    requires { ⌜ Ready (now «data») (now plan) (now outputs) (now reserves) (now energy) (now «tables_at») (now «columns_at») c 0 × (g < c .plants) ⌝ }
+pub fn new_capacity(data: &[u32], plan: &[u32], tables_at: &Starts, columns_at: &Starts, c: Counts, scale: u64, g: usize) -> Sides
+    requires { ⌜ TablesAt (now «data») (now «tables_at») c × (ColumnsAt (now plan) (now «columns_at») c × (g < c .plants)) ⌝ }
     ensures { λ r. ⌜ r ≡ sidesOf (read (now («data» .entry))) scale (planEntry c (now (plan .entry))) (row 15 0 g 0 0) ⌝ }
 {
     if by_plant(data, tables_at, c, KIND, g) == 0 {
         return empty();
     }
-    with_constant(
-        capped::zero(),
+    at_most(
         build_sum(plan, columns_at, c, g),
         scale,
         new_capacity_constant(data, tables_at, c, g),
@@ -131,17 +124,15 @@ pub fn new_capacity(
 
 // 16 (58), candidate: build ≤ BuildLimit·V
 pub fn yearly_build(
-    data: &[u32], plan: &[u32], outputs: &[u32], reserves: &[u32], energy: &EnergyTable, tables_at: &Starts,
-    columns_at: &Starts, c: Counts, scale: u64, y: usize, g: usize,
+    data: &[u32], plan: &[u32], tables_at: &Starts, columns_at: &Starts, c: Counts, scale: u64, y: usize, g: usize,
 ) -> Sides
-    requires { ⌜ Ready (now «data») (now plan) (now outputs) (now reserves) (now energy) (now «tables_at») (now «columns_at») c y × ((y < c .years) × (g < c .plants)) ⌝ }
+    requires { ⌜ TablesAt (now «data») (now «tables_at») c × (ColumnsAt (now plan) (now «columns_at») c × ((y < c .years) × (g < c .plants))) ⌝ }
     ensures { λ r. ⌜ r ≡ sidesOf (read (now («data» .entry))) scale (planEntry c (now (plan .entry))) (row 16 y g 0 0) ⌝ }
 {
     if by_plant(data, tables_at, c, KIND, g) == 0 {
         return empty();
     }
-    with_constant(
-        capped::zero(),
+    at_most(
         capped::product(1, planned_by_year_plant(plan, columns_at, c, BUILD, y, g)),
         scale,
         yearly_build_constant(data, tables_at, c, y, g),
@@ -149,15 +140,11 @@ pub fn yearly_build(
 }
 
 // 17 (62): Σ Dur·HeatRate·gen of that zone and fuel ≤ 1000·MaxFuel
-pub fn fuel_use(
-    data: &[u32], plan: &[u32], outputs: &[u32], reserves: &[u32], energy: &EnergyTable, tables_at: &Starts,
-    columns_at: &Starts, c: Counts, scale: u64, y: usize, z: usize, f: usize,
-) -> Sides
-    requires { ⌜ Ready (now «data») (now plan) (now outputs) (now reserves) (now energy) (now «tables_at») (now «columns_at») c y × ((y < c .years) × ((z < c .zones) × (f < c .fuels))) ⌝ }
-    ensures { λ r. ⌜ r ≡ sidesOf (read (now («data» .entry))) scale (planEntry c (now (plan .entry))) (row 17 y z f 0) ⌝ }
+pub fn fuel_use(data: &[u32], energy: &EnergyTable, tables_at: &Starts, c: Counts, scale: u64, y: usize, z: usize, f: usize) -> Sides
+    requires { ⌜ TablesAt (now «data») (now «tables_at») c × ((length (now energy) ≡ energyCount) × ((y < c .years) × ((z < c .zones) × (f < c .fuels)))) ⌝ }
+    ensures { λ r. ⌜ ((x : Index → ℕ) → Energies (read (now («data» .entry))) x (now (energy .entry)) c → r ≡ sidesOf (read (now («data» .entry))) scale x (row 17 y z f 0)) ⌝ }
 {
-    with_constant(
-        capped::zero(),
+    at_most(
         burned(data, tables_at, c, energy, y, long(z), long(f)),
         scale,
         fuel_use_constant(data, tables_at, c, y, f),
@@ -165,15 +152,11 @@ pub fn fuel_use(
 }
 
 // 18 (64): Σ R·V·Annuity·cap of candidates ≤ 10⁹·MaxCapital
-pub fn capital(
-    data: &[u32], plan: &[u32], outputs: &[u32], reserves: &[u32], energy: &EnergyTable, tables_at: &Starts,
-    columns_at: &Starts, c: Counts, scale: u64,
-) -> Sides
-    requires { ⌜ Ready (now «data») (now plan) (now outputs) (now reserves) (now energy) (now «tables_at») (now «columns_at») c 0 ⌝ }
+pub fn capital(data: &[u32], plan: &[u32], tables_at: &Starts, columns_at: &Starts, c: Counts, scale: u64) -> Sides
+    requires { ⌜ TablesAt (now «data») (now «tables_at») c × ColumnsAt (now plan) (now «columns_at») c ⌝ }
     ensures { λ r. ⌜ r ≡ sidesOf (read (now («data» .entry))) scale (planEntry c (now (plan .entry))) (row 18 0 0 0 0) ⌝ }
 {
-    with_constant(
-        capped::zero(),
+    at_most(
         capital_sum(data, plan, tables_at, columns_at, c),
         scale,
         capital_constant(data, tables_at, c),
@@ -181,15 +164,11 @@ pub fn capital(
 }
 
 // 19 (66): Σ Dur·E·gen in z ≤ 1000·zone cap
-pub fn zone_emission(
-    data: &[u32], plan: &[u32], outputs: &[u32], reserves: &[u32], energy: &EnergyTable, tables_at: &Starts,
-    columns_at: &Starts, c: Counts, scale: u64, y: usize, z: usize,
-) -> Sides
-    requires { ⌜ Ready (now «data») (now plan) (now outputs) (now reserves) (now energy) (now «tables_at») (now «columns_at») c y × ((y < c .years) × (z < c .zones)) ⌝ }
-    ensures { λ r. ⌜ r ≡ sidesOf (read (now («data» .entry))) scale (planEntry c (now (plan .entry))) (row 19 y z 0 0) ⌝ }
+pub fn zone_emission(data: &[u32], energy: &EnergyTable, tables_at: &Starts, c: Counts, scale: u64, y: usize, z: usize) -> Sides
+    requires { ⌜ TablesAt (now «data») (now «tables_at») c × ((length (now energy) ≡ energyCount) × ((y < c .years) × (z < c .zones))) ⌝ }
+    ensures { λ r. ⌜ ((x : Index → ℕ) → Energies (read (now («data» .entry))) x (now (energy .entry)) c → r ≡ sidesOf (read (now («data» .entry))) scale x (row 19 y z 0 0)) ⌝ }
 {
-    with_constant(
-        capped::zero(),
+    at_most(
         emitted_in(data, tables_at, c, energy, y, long(z)),
         scale,
         zone_emission_constant(data, tables_at, c, y, z),
@@ -197,15 +176,11 @@ pub fn zone_emission(
 }
 
 // 20 (68): Σ Dur·E·gen ≤ 1000·system cap
-pub fn system_emission(
-    data: &[u32], plan: &[u32], outputs: &[u32], reserves: &[u32], energy: &EnergyTable, tables_at: &Starts,
-    columns_at: &Starts, c: Counts, scale: u64, y: usize,
-) -> Sides
-    requires { ⌜ Ready (now «data») (now plan) (now outputs) (now reserves) (now energy) (now «tables_at») (now «columns_at») c y × (y < c .years) ⌝ }
-    ensures { λ r. ⌜ r ≡ sidesOf (read (now («data» .entry))) scale (planEntry c (now (plan .entry))) (row 20 y 0 0 0) ⌝ }
+pub fn system_emission(data: &[u32], energy: &EnergyTable, tables_at: &Starts, c: Counts, scale: u64, y: usize) -> Sides
+    requires { ⌜ TablesAt (now «data») (now «tables_at») c × ((length (now energy) ≡ energyCount) × (y < c .years)) ⌝ }
+    ensures { λ r. ⌜ ((x : Index → ℕ) → Energies (read (now («data» .entry))) x (now (energy .entry)) c → r ≡ sidesOf (read (now («data» .entry))) scale x (row 20 y 0 0 0)) ⌝ }
 {
-    with_constant(
-        capped::zero(),
+    at_most(
         emitted(data, tables_at, c, energy, y),
         scale,
         system_emission_constant(data, tables_at, c, y),

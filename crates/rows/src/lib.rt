@@ -1,4 +1,4 @@
-// The rows of the twenty families on a plan: the two sums of each.
+// The rows of every family on a plan: the two sums of each.
 pub mod dispatch;
 pub mod families;
 pub mod fleet;

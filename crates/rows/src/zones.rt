@@ -1,11 +1,11 @@
 // Families 1 to 4: the rows of a zone.
 use crate::Sides;
+use crate::two_sums::at_most;
 use crate::two_sums::with_constant;
 use constants::zones::balance_constant;
 use constants::zones::firm_constant;
 use constants::zones::spinning_constant;
 use constants::zones::transfer_constant;
-use energy::totals::EnergyTable;
 use model::Counts;
 use parts::slices::long;
 use tables::entries::planned_by_link_slice;
@@ -19,26 +19,31 @@ use tables::names::SURPLUS;
 use tables::names::TRANS;
 use tables::names::UNMET;
 use tables::starts::Starts;
-use terms::links::arriving;
+use terms::links::INWARD;
+use terms::links::OUTWARD;
+use terms::links::flows;
 use terms::links::received;
-use terms::links::sent;
 use terms::plants::credit_sum;
 use terms::plants::vre_sum;
 use terms::plants::zone_sum;
 ghost use mathlib.Core.Path.{_≡_};
 ghost use Prim.Native.Nat.{_<_};
+ghost use Rattle.sums.specs.Span.{fine};
 ghost use Rattle.model.specs.Counts.{slicesOf};
 ghost use Rattle.model.specs.Data.{read};
 ghost use Rattle.model.specs.Families.{row};
-ghost use Rattle.tables.specs.Layout.{planEntry};
-ghost use Rattle.rows.specs.Ready.{Ready, sidesOf};
+ghost use Rattle.model.specs.Tests.{entriesFault};
+ghost use Rattle.tables.specs.Layout.{TablesAt, ColumnsAt, planEntry};
+ghost use Rattle.parts.specs.Years.{YearPart};
+ghost use Rattle.rows.specs.Ready.{sidesOf};
 
 // 1 (14): 1000·Σ gen in z − 1000·Σ trans[z,z2] + Σ (1000 − Loss[z2,z])·trans[z2,z] + unmet − surplus = Demand·EE
 pub fn balance(
-    data: &[u32], plan: &[u32], outputs: &[u32], reserves: &[u32], energy: &EnergyTable, tables_at: &Starts,
-    columns_at: &Starts, c: Counts, scale: u64, y: usize, z: usize, s: usize,
+    data: &[u32], plan: &[u32], outputs: &[u32], tables_at: &Starts, columns_at: &Starts, c: Counts, scale: u64,
+    y: usize, z: usize, s: usize,
 ) -> Sides
-    requires { ⌜ Ready (now «data») (now plan) (now outputs) (now reserves) (now energy) (now «tables_at») (now «columns_at») c y × ((y < c .years) × ((z < c .zones) × (s < slicesOf c))) ⌝ }
+    requires { ⌜ TablesAt (now «data») (now «tables_at») c × ((entriesFault (read (now «data»)) ≡ fine) × (ColumnsAt (now plan) (now «columns_at») c × (YearPart (now plan) (now outputs) c 3 y
+        × ((y < c .years) × ((z < c .zones) × (s < slicesOf c)))))) ⌝ }
     ensures { λ r. ⌜ r ≡ sidesOf (read (now («data» .entry))) scale (planEntry c (now (plan .entry))) (row 1 y z 0 s) ⌝ }
 {
     let made = zone_sum(data, tables_at, c, outputs, long(z), s);
@@ -49,7 +54,7 @@ pub fn balance(
         planned_by_zone_slice(plan, columns_at, c, UNMET, y, z, s),
     );
     let below = capped::add_product(
-        sent(plan, columns_at, c, y, z, s),
+        flows(plan, columns_at, c, OUTWARD, y, z, s),
         1,
         planned_by_zone_slice(plan, columns_at, c, SURPLUS, y, z, s),
     );
@@ -58,22 +63,23 @@ pub fn balance(
 
 // 2 (15): trans ≤ TL
 pub fn transfer(
-    data: &[u32], plan: &[u32], outputs: &[u32], reserves: &[u32], energy: &EnergyTable, tables_at: &Starts,
-    columns_at: &Starts, c: Counts, scale: u64, y: usize, z: usize, w: usize, s: usize,
+    data: &[u32], plan: &[u32], tables_at: &Starts, columns_at: &Starts, c: Counts, scale: u64, y: usize, z: usize,
+    w: usize, s: usize,
 ) -> Sides
-    requires { ⌜ Ready (now «data») (now plan) (now outputs) (now reserves) (now energy) (now «tables_at») (now «columns_at») c y × ((y < c .years) × ((z < c .zones) × ((w < c .zones) × (s < slicesOf c)))) ⌝ }
+    requires { ⌜ TablesAt (now «data») (now «tables_at») c × (ColumnsAt (now plan) (now «columns_at») c × ((y < c .years) × ((z < c .zones) × ((w < c .zones) × (s < slicesOf c))))) ⌝ }
     ensures { λ r. ⌜ r ≡ sidesOf (read (now («data» .entry))) scale (planEntry c (now (plan .entry))) (row 2 y z w s) ⌝ }
 {
-    let below = capped::product(1, planned_by_link_slice(plan, columns_at, c, TRANS, y, z, w, s));
-    with_constant(capped::zero(), below, scale, transfer_constant(data, tables_at, c, y, z, w, s))
+    let flow = capped::product(1, planned_by_link_slice(plan, columns_at, c, TRANS, y, z, w, s));
+    at_most(flow, scale, transfer_constant(data, tables_at, c, y, z, w, s))
 }
 
 // 3 (19): 1000·Σ reserve in z + spinshort + 1000·Σ (TL[z2,z] − trans[z2,z]) ≥ 1000·SRes + Err·Σ gen of VRE in z
 pub fn spinning(
-    data: &[u32], plan: &[u32], outputs: &[u32], reserves: &[u32], energy: &EnergyTable, tables_at: &Starts,
-    columns_at: &Starts, c: Counts, scale: u64, y: usize, z: usize, s: usize,
+    data: &[u32], plan: &[u32], outputs: &[u32], reserves: &[u32], tables_at: &Starts, columns_at: &Starts, c: Counts,
+    scale: u64, y: usize, z: usize, s: usize,
 ) -> Sides
-    requires { ⌜ Ready (now «data») (now plan) (now outputs) (now reserves) (now energy) (now «tables_at») (now «columns_at») c y × ((y < c .years) × ((z < c .zones) × (s < slicesOf c))) ⌝ }
+    requires { ⌜ TablesAt (now «data») (now «tables_at») c × (ColumnsAt (now plan) (now «columns_at») c × (YearPart (now plan) (now outputs) c 3 y × (YearPart (now plan) (now reserves) c 4 y
+        × ((y < c .years) × ((z < c .zones) × (s < slicesOf c)))))) ⌝ }
     ensures { λ r. ⌜ r ≡ sidesOf (read (now («data» .entry))) scale (planEntry c (now (plan .entry))) (row 3 y z 0 s) ⌝ }
 {
     let held = zone_sum(data, tables_at, c, reserves, long(z), s);
@@ -84,7 +90,7 @@ pub fn spinning(
     );
     let err = single(data, tables_at, c, ERR);
     let below = capped::join(
-        arriving(plan, columns_at, c, y, z, s),
+        flows(plan, columns_at, c, INWARD, y, z, s),
         vre_sum(data, tables_at, c, outputs, long(z), err, s),
     );
     with_constant(above, below, scale, spinning_constant(data, tables_at, c, y, z, s))
@@ -92,10 +98,9 @@ pub fn spinning(
 
 // 4 (21): Σ CapCredit·cap + firmshort + 1000·Σ TL[z2,z] over z2 and all seasons ≥ (1000 + PRM)·peak
 pub fn firm(
-    data: &[u32], plan: &[u32], outputs: &[u32], reserves: &[u32], energy: &EnergyTable, tables_at: &Starts,
-    columns_at: &Starts, c: Counts, scale: u64, y: usize, z: usize,
+    data: &[u32], plan: &[u32], tables_at: &Starts, columns_at: &Starts, c: Counts, scale: u64, y: usize, z: usize,
 ) -> Sides
-    requires { ⌜ Ready (now «data») (now plan) (now outputs) (now reserves) (now energy) (now «tables_at») (now «columns_at») c y × ((y < c .years) × (z < c .zones)) ⌝ }
+    requires { ⌜ TablesAt (now «data») (now «tables_at») c × ((entriesFault (read (now «data»)) ≡ fine) × (ColumnsAt (now plan) (now «columns_at») c × ((y < c .years) × (z < c .zones)))) ⌝ }
     ensures { λ r. ⌜ r ≡ sidesOf (read (now («data» .entry))) scale (planEntry c (now (plan .entry))) (row 4 y z 0 0) ⌝ }
 {
     let credit = credit_sum(data, plan, tables_at, columns_at, c, y, long(z));

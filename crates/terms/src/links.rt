@@ -18,6 +18,7 @@ ghost use Rattle.model.specs.Counts.{slicesOf};
 ghost use Rattle.model.specs.Data.{read, tl, loss};
 ghost use Rattle.model.specs.Columns.{trans};
 ghost use Rattle.tables.specs.Layout.{Counted, TablesAt, ColumnsAt, planEntry};
+ghost use Rattle.terms.specs.Links.{link};
 
 // Σ (1000 − Loss[u,z])·trans[u,z] over the other zones u: what zone z receives.
 pub fn received(data: &[u32], plan: &[u32], tables_at: &Starts, columns_at: &Starts, c: Counts, y: usize, z: usize, s: usize) -> Sum
@@ -40,30 +41,32 @@ fn kept_of(lost: u64) -> u64
     if lost < 1000 { 1000 - lost } else { 0 }
 }
 
-// 1000·Σ trans[u,z] over the other zones u: what is sent to zone z.
-pub fn arriving(plan: &[u32], columns_at: &Starts, c: Counts, y: usize, z: usize, s: usize) -> Sum
+// A link's direction, seen from the zone whose links are summed.
+pub const INWARD: bool = true;
+pub const OUTWARD: bool = false;
+
+// 1000·Σ trans over the links of zone z with the other zones u: trans[u,z] where `inward` holds, else trans[z,u].
+pub fn flows(plan: &[u32], columns_at: &Starts, c: Counts, inward: bool, y: usize, z: usize, s: usize) -> Sum
     requires { ⌜ Counted c × (ColumnsAt (now plan) (now «columns_at») c × ((y < c .years) × ((z < c .zones) × (s < slicesOf c)))) ⌝ }
-    ensures { λ r. ⌜ r ≡ cap (sum (c .zones) (λ u. on (not (eqb u z)) (1000 * planEntry c (now (plan .entry)) (trans y u z s)))) ⌝ }
+    ensures { λ r. ⌜ r ≡ cap (sum (c .zones) (λ u. on (not (eqb u z)) (1000 * planEntry c (now (plan .entry)) (link inward y z u s)))) ⌝ }
 {
     let mut total = capped::zero();
     for u in 0..c.zones {
-        let flow = planned_by_link_slice(plan, columns_at, c, TRANS, y, u, z, s);
+        let flow = flow_between(plan, columns_at, c, inward, y, z, u, s);
         total = capped::add_product_if(u != z, total, 1000, flow);
     }
     total
 }
 
-// 1000·Σ trans[z,u] over the other zones u: what zone z sends.
-pub fn sent(plan: &[u32], columns_at: &Starts, c: Counts, y: usize, z: usize, s: usize) -> Sum
-    requires { ⌜ Counted c × (ColumnsAt (now plan) (now «columns_at») c × ((y < c .years) × ((z < c .zones) × (s < slicesOf c)))) ⌝ }
-    ensures { λ r. ⌜ r ≡ cap (sum (c .zones) (λ u. on (not (eqb u z)) (1000 * planEntry c (now (plan .entry)) (trans y z u s)))) ⌝ }
+// trans[u,z] where `inward` holds, else trans[z,u].
+fn flow_between(plan: &[u32], columns_at: &Starts, c: Counts, inward: bool, y: usize, z: usize, u: usize, s: usize) -> u64
+    requires { ⌜ Counted c × (ColumnsAt (now plan) (now «columns_at») c × ((y < c .years) × ((z < c .zones) × ((u < c .zones) × (s < slicesOf c))))) ⌝ }
+    ensures { λ r. ⌜ r ≡ planEntry c (now (plan .entry)) (link inward y z u s) ⌝ }
 {
-    let mut total = capped::zero();
-    for u in 0..c.zones {
-        let flow = planned_by_link_slice(plan, columns_at, c, TRANS, y, z, u, s);
-        total = capped::add_product_if(u != z, total, 1000, flow);
+    if inward {
+        return planned_by_link_slice(plan, columns_at, c, TRANS, y, u, z, s);
     }
-    total
+    planned_by_link_slice(plan, columns_at, c, TRANS, y, z, u, s)
 }
 
 // Σ TL[u,z] over the other zones u, in season q.

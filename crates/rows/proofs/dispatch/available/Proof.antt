@@ -3,7 +3,7 @@ use Rattle.model.specs.Data.{read, duration}
 use Rattle.model.specs.Families.{available}
 use Rattle.energy.proofs.Laws.{season-is, available-energy}
 use Rattle.rows.specs.Ready.{sidesOf}
-use Rattle.rows.proofs.Laws.{plain, product3-is}
+use Rattle.rows.proofs.Laws.{product3-is, two-sums, plain}
 use borrow.Author.Needs.{needs}
 use Rattle.rows.proofs.dispatch.available.Statement.{statement}
 use Rattle.rows.proofs.dispatch.available.Tie as tie
@@ -31,16 +31,18 @@ scale-requires c κs = search needs
 
 returns : tie.Need-returns
 unfolding sidesOf available
-returns c =
+returns c N =
     let c4 = c .before .before .before .before in
-    let c8 = c4 .before .before .before .before in
-    let p = c8 .before .before .before .pre in
-    let D = read (c8 .before .before .before .args .«data» .now) in
-    let n = p .0 .tablesAt .counts in
-    plain _ _ _
+    let c9 = c4 .before .before .before .before .before in
+    let p = c9 .pre in
+    let D = read (c9 .args .«data» .now) in
+    let n = p .0 .counts in
+    let h = p .1 .1 .1 in
+    plain N _ _
+    (two-sums _ _
     (product3-is (c .before .before .add-product3 .ensures) (c4 .before .zero .ensures) (c4 .before .before .by-plant-season .ensures .0)
     (c4 .season-hours .ensures .0 ∙ season-is D _ (λ s. duration D s) n refl) (c .before .before .before .planned-by-year-plant .ensures .0))
-    (c .scale .ensures ∙ rw (c .before .energy-at .ensures) (available-energy (p .0 .energies) n (p .1 .0) _ _ (p .1 .1 .0) (p .1 .1 .1)))
+    (c .scale .ensures ∙ rw (c .before .energy-at .ensures) (available-energy (p .1 .1 .0) n (h .0) _ _ (h .1 .0) (h .1 .1))))
 
 pub available-spec : {M : Type 1} → statement M
 available-spec =

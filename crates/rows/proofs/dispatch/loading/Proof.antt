@@ -1,7 +1,7 @@
-use mathlib.Core.Path.{refl, ap, _∙_}
+use mathlib.Core.Path.{refl, ap}
 use Prim.Native.Nat.{ℕ, _+_}
 use Rattle.rows.specs.Ready.{sidesOf}
-use Rattle.rows.proofs.Laws.{plain, product-is, plus-is}
+use Rattle.rows.proofs.Laws.{product-is, join-is, part-entry, two-sums, plain}
 use borrow.Author.Needs.{needs}
 use Rattle.rows.proofs.dispatch.loading.Statement.{statement}
 use Rattle.rows.proofs.dispatch.loading.Tie as tie
@@ -12,37 +12,28 @@ by-plant-requires c κs = search needs
 add-rate : tie.Need-add-rate
 add-rate c = search needs
 
-planned-by-year-plant-requires : tie.Need-planned-by-year-plant-requires
-planned-by-year-plant-requires c κs = search needs
+rate-of-capacity-requires : tie.Need-rate-of-capacity-requires
+rate-of-capacity-requires c κs = search needs
 
-product-requires : tie.Need-product-requires
-product-requires c κs = search needs
+in-thousandths-requires : tie.Need-in-thousandths-requires
+in-thousandths-requires c κs = search needs
 
-part-at-requires : tie.Need-part-at-requires
-part-at-requires c κs = search needs
+in-thousandths-requires-2 : tie.Need-in-thousandths-requires-2
+in-thousandths-requires-2 c κs = search needs
 
-product-requires-2 : tie.Need-product-requires-2
-product-requires-2 c κs = search needs
-
-part-at-requires-2 : tie.Need-part-at-requires-2
-part-at-requires-2 c κs = search needs
-
-add-product-requires : tie.Need-add-product-requires
-add-product-requires c κs = search needs
+join-requires : tie.Need-join-requires
+join-requires c κs = search needs
 
 returns : tie.Need-returns
 unfolding sidesOf
-returns c =
+returns c N =
     let c4 = c .before .before .before .before in
-    let c8 = c4 .before .before .before .before in
-    let p = c8 .before .before .before .pre in
-    let r = p .0 in
-    let hg = p .1 .1 .0 in
-    let hs = p .1 .1 .1 in
-    plain _ _ _
-    (product-is (c4 .product .ensures) (ap (λ (v : ℕ). 1000 + v) (c4 .before .before .by-plant .ensures .0)) (c4 .before .planned-by-year-plant .ensures .0))
-    (plus-is _ (c .add-product .ensures)
-    (product-is (c .before .before .product2 .ensures) refl (c .before .before .before .part-at .ensures .0 ∙ r .outputs .is _ _ hg hs)) refl (c .before .part-at2 .ensures .0 ∙ r .reserves .is _ _ hg hs))
+    let p = c4 .before .before .before .before .before .pre in
+    let hg = p .1 .1 .1 .1 .1 .0 in
+    let hs = p .1 .1 .1 .1 .1 .1 in
+    plain N _ _
+    (two-sums _ _ (product-is (c .before .before .before .rate-of-capacity .ensures) (ap (λ (v : ℕ). 1000 + v) (c4 .by-plant .ensures .0)) refl)
+    (join-is _ _ (c .join .ensures) (part-entry (p .1 .1 .0) hg hs (c .before .before .in-thousandths .ensures)) (part-entry (p .1 .1 .1 .0) hg hs (c .before .in-thousandths2 .ensures))))
 
 pub loading-spec : {M : Type 1} → statement M
 loading-spec =
@@ -50,10 +41,8 @@ loading-spec =
     (tie.spec
     by-plant-requires
     add-rate
-    planned-by-year-plant-requires
-    product-requires
-    part-at-requires
-    product-requires-2
-    part-at-requires-2
-    add-product-requires
+    rate-of-capacity-requires
+    in-thousandths-requires
+    in-thousandths-requires-2
+    join-requires
     returns)

@@ -3,99 +3,91 @@ use Rattle.model.specs.Families.{familyOf, familyCount}
 use Rattle.tables.proofs.Laws.{last-arm}
 use Rattle.constants.proofs.Laws.{inside-at}
 use Rattle.rows.specs.Ready.{sidesOf}
-use Rattle.rows.proofs.Laws.{by-slice, by-first, first-year}
+use borrow.Author.Needs.{needs}
 use Rattle.rows.proofs.families.row_sides.Statement.{statement}
 use Rattle.rows.proofs.families.row_sides.Tie as tie
 
 balance-requires : tie.Need-balance-requires
 unfolding familyOf
-balance-requires c κs = by-slice _ (c .match .keys1) (c .before .before .before .before .before .pre)
+balance-requires c κs = let m = inside-at _ (c .match .keys1) (c .before .before .before .before .before .pre .1 .1) in search needs
 
 transfer-requires : tie.Need-transfer-requires
 unfolding familyOf
-transfer-requires c κs =
-    let p = c .before .before .before .before .before .pre in
-    let m = inside-at _ (c .match .keys2) (p .1 .1) in (p .0, (m .year, (m .first, (m .second, m .slice))))
+transfer-requires c κs = let m = inside-at _ (c .match .keys2) (c .before .before .before .before .before .pre .1 .1) in search needs
 
 spinning-requires : tie.Need-spinning-requires
 unfolding familyOf
-spinning-requires c κs = by-slice _ (c .match .keys3) (c .before .before .before .before .before .pre)
+spinning-requires c κs = let m = inside-at _ (c .match .keys3) (c .before .before .before .before .before .pre .1 .1) in search needs
 
 firm-requires : tie.Need-firm-requires
 unfolding familyOf
-firm-requires c κs = by-first _ (c .match .keys4) (c .before .before .before .before .before .pre)
+firm-requires c κs = let m = inside-at _ (c .match .keys4) (c .before .before .before .before .before .pre .1 .1) in search needs
 
 loading-requires : tie.Need-loading-requires
 unfolding familyOf
-loading-requires c κs = by-slice _ (c .match .keys5) (c .before .before .before .before .before .pre)
+loading-requires c κs = let m = inside-at _ (c .match .keys5) (c .before .before .before .before .before .pre .1 .1) in search needs
 
 offer-requires : tie.Need-offer-requires
 unfolding familyOf
-offer-requires c κs = by-slice _ (c .match .keys6) (c .before .before .before .before .before .pre)
+offer-requires c κs = let m = inside-at _ (c .match .keys6) (c .before .before .before .before .before .pre .1 .1) in search needs
 
 ramp-down-requires : tie.Need-ramp-down-requires
 unfolding familyOf
-ramp-down-requires c κs = by-slice _ (c .match .keys7) (c .before .before .before .before .before .pre)
+ramp-down-requires c κs = let m = inside-at _ (c .match .keys7) (c .before .before .before .before .before .pre .1 .1) in search needs
 
 ramp-up-requires : tie.Need-ramp-up-requires
 unfolding familyOf
-ramp-up-requires c κs = by-slice _ (c .match .keys8) (c .before .before .before .before .before .pre)
+ramp-up-requires c κs = let m = inside-at _ (c .match .keys8) (c .before .before .before .before .before .pre .1 .1) in search needs
 
 minimum-load-requires : tie.Need-minimum-load-requires
 unfolding familyOf
-minimum-load-requires c κs = by-slice _ (c .match .keys9) (c .before .before .before .before .before .pre)
+minimum-load-requires c κs = let m = inside-at _ (c .match .keys9) (c .before .before .before .before .before .pre .1 .1) in search needs
 
 available-requires : tie.Need-available-requires
 unfolding familyOf
-available-requires c κs = by-slice _ (c .match .keys10) (c .before .before .before .before .before .pre)
+available-requires c κs = let m = inside-at _ (c .match .keys10) (c .before .before .before .before .before .pre .1 .1) in search needs
 
 profiled-requires : tie.Need-profiled-requires
 unfolding familyOf
-profiled-requires c κs = by-slice _ (c .match .keys11) (c .before .before .before .before .before .pre)
+profiled-requires c κs = let m = inside-at _ (c .match .keys11) (c .before .before .before .before .before .pre .1 .1) in search needs
 
 stock-requires : tie.Need-stock-requires
 unfolding familyOf
-stock-requires c κs = by-first _ (c .match .keys12) (c .before .before .before .before .before .pre)
+stock-requires c κs = let m = inside-at _ (c .match .keys12) (c .before .before .before .before .before .pre .1 .1) in search needs
 
 life-requires : tie.Need-life-requires
 unfolding familyOf
-life-requires c κs = by-first _ (c .match .keys13) (c .before .before .before .before .before .pre)
+life-requires c κs = let m = inside-at _ (c .match .keys13) (c .before .before .before .before .before .pre .1 .1) in search needs
 
 fixed-requires : tie.Need-fixed-requires
 unfolding familyOf
-fixed-requires c κs = by-first _ (c .match .keys14) (c .before .before .before .before .before .pre)
+fixed-requires c κs = let m = inside-at _ (c .match .keys14) (c .before .before .before .before .before .pre .1 .1) in search needs
 
 new-capacity-requires : tie.Need-new-capacity-requires
 unfolding familyOf
-new-capacity-requires c κs =
-    let p = c .before .before .before .before .before .pre in
-    let m = inside-at _ (c .match .keys15) (p .1 .1) in (first-year (m .year) (p .0), m .first)
+new-capacity-requires c κs = let m = inside-at _ (c .match .keys15) (c .before .before .before .before .before .pre .1 .1) in search needs
 
 yearly-build-requires : tie.Need-yearly-build-requires
 unfolding familyOf
-yearly-build-requires c κs = by-first _ (c .match .keys16) (c .before .before .before .before .before .pre)
+yearly-build-requires c κs = let m = inside-at _ (c .match .keys16) (c .before .before .before .before .before .pre .1 .1) in search needs
 
 fuel-use-requires : tie.Need-fuel-use-requires
 unfolding familyOf
-fuel-use-requires c κs =
-    let p = c .before .before .before .before .before .pre in
-    let m = inside-at _ (c .match .keys17) (p .1 .1) in (p .0, (m .year, (m .first, m .second)))
+fuel-use-requires c κs = let m = inside-at _ (c .match .keys17) (c .before .before .before .before .before .pre .1 .1) in search needs
 
 capital-requires : tie.Need-capital-requires
 unfolding familyOf
-capital-requires c κs =
-    let p = c .before .before .before .before .before .pre in
-    let m = inside-at _ (c .match .keys18) (p .1 .1) in first-year (m .year) (p .0)
+capital-requires c κs = let m = inside-at _ (c .match .keys18) (c .before .before .before .before .before .pre .1 .1) in search needs
 
 zone-emission-requires : tie.Need-zone-emission-requires
 unfolding familyOf
-zone-emission-requires c κs = by-first _ (c .match .keys19) (c .before .before .before .before .before .pre)
+zone-emission-requires c κs = let m = inside-at _ (c .match .keys19) (c .before .before .before .before .before .pre .1 .1) in search needs
 
 system-emission-requires : tie.Need-system-emission-requires
 unfolding familyOf
 system-emission-requires c κs =
     let p = c .before .before .before .before .before .pre in
-    let m = inside-at _ (last-arm (familyCount - 1) (p .1 .0) (c .match .rest)) (p .1 .1) in (p .0, m .year)
+    let m = inside-at _ (last-arm (familyCount - 1) (p .1 .0) (c .match .rest)) (p .1 .1) in search needs
 
 returns : tie.Need-returns
 unfolding sidesOf
@@ -115,31 +107,31 @@ returns-4 c = rw (c .before .match .keys4) (c .firm .ensures)
 
 returns-5 : tie.Need-returns-5
 unfolding sidesOf
-returns-5 c = rw (c .before .match .keys5) (c .loading .ensures)
+returns-5 c = rw (c .before .match .keys5) (c .loading .ensures _)
 
 returns-6 : tie.Need-returns-6
 unfolding sidesOf
-returns-6 c = rw (c .before .match .keys6) (c .offer .ensures)
+returns-6 c = rw (c .before .match .keys6) (c .offer .ensures _)
 
 returns-7 : tie.Need-returns-7
 unfolding sidesOf
-returns-7 c = rw (c .before .match .keys7) (c .ramp-down .ensures)
+returns-7 c = rw (c .before .match .keys7) (c .ramp-down .ensures _)
 
 returns-8 : tie.Need-returns-8
 unfolding sidesOf
-returns-8 c = rw (c .before .match .keys8) (c .ramp-up .ensures)
+returns-8 c = rw (c .before .match .keys8) (c .ramp-up .ensures _)
 
 returns-9 : tie.Need-returns-9
 unfolding sidesOf
-returns-9 c = rw (c .before .match .keys9) (c .minimum-load .ensures)
+returns-9 c = rw (c .before .match .keys9) (c .minimum-load .ensures _)
 
 returns-10 : tie.Need-returns-10
 unfolding sidesOf
-returns-10 c = rw (c .before .match .keys10) (c .available .ensures)
+returns-10 c = rw (c .before .match .keys10) (c .available .ensures _)
 
 returns-11 : tie.Need-returns-11
 unfolding sidesOf
-returns-11 c = rw (c .before .match .keys11) (c .profiled .ensures)
+returns-11 c = rw (c .before .match .keys11) (c .profiled .ensures _)
 
 returns-12 : tie.Need-returns-12
 unfolding sidesOf
@@ -147,11 +139,11 @@ returns-12 c = rw (c .before .match .keys12) (c .stock .ensures)
 
 returns-13 : tie.Need-returns-13
 unfolding sidesOf
-returns-13 c = rw (c .before .match .keys13) (c .life .ensures)
+returns-13 c = rw (c .before .match .keys13) (c .life .ensures _)
 
 returns-14 : tie.Need-returns-14
 unfolding sidesOf
-returns-14 c = rw (c .before .match .keys14) (c .fixed .ensures)
+returns-14 c = rw (c .before .match .keys14) (c .fixed .ensures _)
 
 returns-15 : tie.Need-returns-15
 unfolding sidesOf
@@ -163,7 +155,7 @@ returns-16 c = rw (c .before .match .keys16) (c .yearly-build .ensures)
 
 returns-17 : tie.Need-returns-17
 unfolding sidesOf
-returns-17 c = rw (c .before .match .keys17) (c .fuel-use .ensures)
+returns-17 c = rw (c .before .match .keys17) (c .fuel-use .ensures _ (c .before .before .before .before .before .before .pre .0 .energies))
 
 returns-18 : tie.Need-returns-18
 unfolding sidesOf
@@ -171,11 +163,13 @@ returns-18 c = rw (c .before .match .keys18) (c .capital .ensures)
 
 returns-19 : tie.Need-returns-19
 unfolding sidesOf
-returns-19 c = rw (c .before .match .keys19) (c .zone-emission .ensures)
+returns-19 c = rw (c .before .match .keys19) (c .zone-emission .ensures _ (c .before .before .before .before .before .before .pre .0 .energies))
 
 returns-20 : tie.Need-returns-20
 unfolding sidesOf
-returns-20 c = rw (last-arm (familyCount - 1) (c .before .before .before .before .before .before .pre .1 .0) (c .before .match .rest)) (c .system-emission .ensures)
+returns-20 c =
+    let p = c .before .before .before .before .before .before .pre in
+    rw (last-arm (familyCount - 1) (p .1 .0) (c .before .match .rest)) (c .system-emission .ensures _ (p .0 .energies))
 
 pub row-sides-spec : {M : Type 1} → statement M
 row-sides-spec =

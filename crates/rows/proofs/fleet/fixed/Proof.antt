@@ -1,8 +1,8 @@
 use mathlib.Core.Path.{refl}
+use lib.Dec.{eqb}
 use Rattle.constants.proofs.Laws.{flag-on, flag-off}
 use Rattle.rows.specs.Ready.{sidesOf}
-use lib.Dec.{eqb}
-use Rattle.rows.proofs.Laws.{plain, product-is, nothing-plus, plus-if-is}
+use Rattle.rows.proofs.Laws.{product-is, nothing-plus, plus-if-is, two-sums, plain}
 use borrow.Author.Needs.{needs}
 use Rattle.rows.proofs.fleet.fixed.Statement.{statement}
 use Rattle.rows.proofs.fleet.fixed.Tie as tie
@@ -21,9 +21,10 @@ product-requires c κs = search needs
 
 returns : tie.Need-returns
 unfolding sidesOf
-returns c =
+returns c N =
     rw (flag-off 0 (c .before .before .before .by-plant .ensures .0) (c .before .before .if1 .taken))
-    (plain _ _ _ (c .before .zero .ensures) (nothing-plus _ (product-is (c .product .ensures) refl (c .before .before .before .before .planned-by-year-plant .ensures .0))))
+    (plain N _ _
+    (two-sums _ _ (c .before .zero .ensures) (nothing-plus _ (product-is (c .product .ensures) refl (c .before .before .before .before .planned-by-year-plant .ensures .0)))))
 
 planned-by-year-plant-requires-2 : tie.Need-planned-by-year-plant-requires-2
 planned-by-year-plant-requires-2 c κs = search needs
@@ -39,13 +40,14 @@ add-product-if-requires c κs = search needs
 
 returns-2 : tie.Need-returns-2
 unfolding sidesOf
-returns-2 c =
+returns-2 c N =
     let c4 = c .before .before .before .before in
-    let c8 = c4 .before .before .before .before in
+    let y = c4 .before .before .before .before .before .args .y in
     rw (flag-on 0 (c4 .before .by-plant .ensures .0) (c4 .if1 .left))
-    (plain _ _ _ (c .before .zero2 .ensures)
-    (plus-if-is (eqb (c8 .before .before .before .args .y) 0) _ 1 (c .add-product-if .ensures)
-    (product-is (c .before .before .product2 .ensures) refl (c .before .before .before .planned-by-year-plant2 .ensures .0)) (c4 .before .before .planned-by-year-plant .ensures .0)))
+    (plain N _ _
+    (two-sums _ _ (c .before .zero2 .ensures)
+    (plus-if-is (eqb y 0) _ 1 (c .add-product-if .ensures)
+    (product-is (c .before .before .product2 .ensures) refl (c .before .before .before .planned-by-year-plant2 .ensures .0)) (c4 .before .before .planned-by-year-plant .ensures .0))))
 
 pub fixed-spec : {M : Type 1} → statement M
 fixed-spec =

@@ -3,13 +3,10 @@ use Rattle.model.specs.Families.{fuelUse}
 use Rattle.energy.proofs.Laws.{fuel-energy}
 use Rattle.constants.specs.Constants.{constantOf}
 use Rattle.rows.specs.Ready.{sidesOf}
-use Rattle.rows.proofs.Laws.{constant}
+use Rattle.rows.proofs.Laws.{limit}
 use borrow.Author.Needs.{needs}
 use Rattle.rows.proofs.fleet.fuel_use.Statement.{statement}
 use Rattle.rows.proofs.fleet.fuel_use.Tie as tie
-
-zero-requires : tie.Need-zero-requires
-zero-requires c κs = search needs
 
 long-requires : tie.Need-long-requires
 long-requires c κs = search needs
@@ -23,26 +20,24 @@ burned-requires c κs = search needs
 fuel-use-constant-requires : tie.Need-fuel-use-constant-requires
 fuel-use-constant-requires c κs = search needs
 
-with-constant-requires : tie.Need-with-constant-requires
-with-constant-requires c κs = search needs
+at-most-requires : tie.Need-at-most-requires
+at-most-requires c κs = search needs
 
 returns : tie.Need-returns
 unfolding sidesOf constantOf fuelUse
-returns c =
+returns c x n =
     let c4 = c .before .before .before .before in
-    let c8 = c4 .before .before .before .before in
-    let p = c8 .before .before .pre in
-    constant _ _ _ (c .with-constant .ensures) (c .before .fuel-use-constant .ensures) (c4 .before .zero .ensures)
-    (c .before .before .burned .ensures ∙ rw (c4 .long .ensures, c .before .before .before .long2 .ensures) (fuel-energy (p .0 .energies) (p .0 .tablesAt .counts) (p .1 .0) _ _))
+    let p = c4 .before .before .pre in
+    limit _ _ (c .at-most .ensures) (c .before .fuel-use-constant .ensures)
+    (c .before .before .burned .ensures ∙ rw (c4 .long .ensures, c .before .before .before .long2 .ensures) (fuel-energy n (p .0 .counts) (p .1 .1 .0) _ _))
 
 pub fuel-use-spec : {M : Type 1} → statement M
 fuel-use-spec =
     tie.close
     (tie.spec
-    zero-requires
     long-requires
     long-requires-2
     burned-requires
     fuel-use-constant-requires
-    with-constant-requires
+    at-most-requires
     returns)

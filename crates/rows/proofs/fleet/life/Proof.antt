@@ -1,7 +1,7 @@
 use mathlib.Core.Path.{refl}
 use Prim.Native.Nat.{_+_}
 use Rattle.rows.specs.Ready.{sidesOf}
-use Rattle.rows.proofs.Laws.{plain, no-terms, product-is, serves, idle}
+use Rattle.rows.proofs.Laws.{product-is, two-sums, plain, serves, idle}
 use borrow.Author.Needs.{needs}
 use Rattle.rows.proofs.fleet.life.Statement.{statement}
 use Rattle.rows.proofs.fleet.life.Tie as tie
@@ -20,11 +20,10 @@ empty-requires c κs = search needs
 
 returns : tie.Need-returns
 unfolding sidesOf
-returns c =
+returns c N =
     let c4 = c .before .before .before .before in
-    let c8 = c4 .before .before .before .before in
-    rw (serves (c8 .before .args .y + 1) (c .before .before .in-service .ensures) (c4 .by-plant .ensures .0) (c .before .before .before .by-plant2 .ensures .0) (c .before .if1 .taken))
-    (no-terms _ (c .empty .ensures))
+    rw (serves (c4 .before .before .before .args .y + 1) (c .before .before .in-service .ensures) (c4 .by-plant .ensures .0) (c .before .before .before .by-plant2 .ensures .0) (c .before .if1 .taken))
+    (plain N 0 0 (c .empty .ensures))
 
 zero-requires : tie.Need-zero-requires
 zero-requires c κs = search needs
@@ -37,11 +36,10 @@ product-requires c κs = search needs
 
 returns-2 : tie.Need-returns-2
 unfolding sidesOf
-returns-2 c =
+returns-2 c N =
     let c4 = c .before .before .before .before in
-    let c8 = c4 .before .before .before .before in
-    rw (idle (c8 .before .before .before .args .y + 1) (c4 .in-service .ensures) (c4 .before .before .by-plant .ensures .0) (c4 .before .by-plant2 .ensures .0) (c .before .before .before .if1 .left))
-    (plain _ _ _ (c .before .before .zero .ensures) (product-is (c .product .ensures) refl (c .before .planned-by-year-plant .ensures .0)))
+    rw (idle (c4 .before .before .before .before .before .args .y + 1) (c4 .in-service .ensures) (c4 .before .before .by-plant .ensures .0) (c4 .before .by-plant2 .ensures .0) (c .before .before .before .if1 .left))
+    (plain N _ _ (two-sums _ _ (c .before .before .zero .ensures) (product-is (c .product .ensures) refl (c .before .planned-by-year-plant .ensures .0))))
 
 pub life-spec : {M : Type 1} → statement M
 life-spec =

@@ -6,7 +6,7 @@ use borrow.Author.Tests.{lt-ltb, le-ltb, eq-eqb, ne-eqb}
 use Rattle.constants.proofs.Laws.{flag-on, flag-off}
 use Rattle.constants.specs.Constants.{constantOf}
 use Rattle.rows.specs.Ready.{sidesOf}
-use Rattle.rows.proofs.Laws.{plain, constant, product-is, plus-is, plus-nothing}
+use Rattle.rows.proofs.Laws.{product-is, plus-is, plus-nothing, two-sums, plain, constant}
 use borrow.Author.Needs.{needs}
 use Rattle.rows.proofs.fleet.stock.Statement.{statement}
 use Rattle.rows.proofs.fleet.stock.Tie as tie
@@ -34,8 +34,9 @@ unfolding sidesOf
 returns c =
     let c4 = c .before .before .before .before in
     rw (flag-off 0 (c .before .before .before .by-plant .ensures .0) (c .before .before .if1 .taken))
-    (plain _ _ _ (plus-nothing _ (product-is (c4 .before .product .ensures) refl (c4 .before .before .planned-by-year-plant .ensures .0)))
-    (plus-is _ (c .add-product .ensures) (c4 .earlier-cap .ensures) refl (c .before .planned-by-year-plant2 .ensures .0)))
+    (plain _ _ _
+    (two-sums _ _ (plus-nothing _ (product-is (c4 .before .product .ensures) refl (c4 .before .before .planned-by-year-plant .ensures .0)))
+    (plus-is _ (c .add-product .ensures) (c4 .earlier-cap .ensures) refl (c .before .planned-by-year-plant2 .ensures .0))))
 
 stock-constant-requires : tie.Need-stock-constant-requires
 stock-constant-requires c κs = search needs
@@ -48,8 +49,7 @@ unfolding sidesOf constantOf
 returns-2 c =
     let c4 = c .before .before .before .before in
     let c8 = c4 .before .before .before .before in
-    let c12 = c8 .before .before .before .before in
-    let y = c12 .args .y in
+    let y = c8 .before .before .args .y in
     let f = flag-on 0 (c4 .by-plant .ensures .0) (c .before .before .before .if1 .left) in
     let e : eqb y 0 ≡ true = eq-eqb y 0 (c .before .before .if2 .taken) in
     let l : ltb 0 y ≡ false = le-ltb 0 y (omega (arith, c .before .before .if2 .taken)) in
@@ -68,14 +68,14 @@ unfolding sidesOf
 returns-3 c =
     let c4 = c .before .before .before .before in
     let c8 = c4 .before .before .before .before in
-    let c12 = c8 .before .before .before .before in
-    let y = c12 .args .y in
+    let y = c8 .before .before .args .y in
     let e : eqb y 0 ≡ false = ne-eqb y 0 (c .before .before .if2 .left) in
     let l : ltb 0 y ≡ true = lt-ltb 0 y (omega (arith, c .before .before .if2 .left)) in
     rw (flag-on 0 (c4 .by-plant .ensures .0) (c .before .before .before .if1 .left), e, l)
     (plain _ _ _
+    (two-sums _ _
     (plus-is _ (c .add-product2 .ensures) (product-is (c4 .before .before .product .ensures) refl (c4 .before .before .before .planned-by-year-plant .ensures .0)) refl (c .before .planned-by-year-plant3 .ensures .0))
-    (plus-nothing _ (c4 .before .earlier-cap .ensures ∙ rw l)))
+    (plus-nothing _ (c4 .before .earlier-cap .ensures ∙ rw l))))
 
 pub stock-spec : {M : Type 1} → statement M
 stock-spec =

@@ -2,7 +2,7 @@ use mathlib.Core.Path.{refl}
 use Rattle.constants.proofs.Laws.{flag-on, flag-off}
 use Rattle.constants.specs.Constants.{constantOf}
 use Rattle.rows.specs.Ready.{sidesOf}
-use Rattle.rows.proofs.Laws.{constant, no-terms, product-is}
+use Rattle.rows.proofs.Laws.{product-is, plain, limit}
 use borrow.Author.Needs.{needs}
 use Rattle.rows.proofs.fleet.yearly_build.Statement.{statement}
 use Rattle.rows.proofs.fleet.yearly_build.Tie as tie
@@ -15,10 +15,7 @@ empty-requires c κs = search needs
 
 returns : tie.Need-returns
 unfolding sidesOf
-returns c = rw (flag-on 0 (c .before .before .by-plant .ensures .0) (c .before .if1 .taken)) (no-terms _ (c .empty .ensures))
-
-zero-requires : tie.Need-zero-requires
-zero-requires c κs = search needs
+returns c = rw (flag-on 0 (c .before .before .by-plant .ensures .0) (c .before .if1 .taken)) (plain _ 0 0 (c .empty .ensures))
 
 planned-by-year-plant-requires : tie.Need-planned-by-year-plant-requires
 planned-by-year-plant-requires c κs = search needs
@@ -29,17 +26,17 @@ product-requires c κs = search needs
 yearly-build-constant-requires : tie.Need-yearly-build-constant-requires
 yearly-build-constant-requires c κs = search needs
 
-with-constant-requires : tie.Need-with-constant-requires
-with-constant-requires c κs = search needs
+at-most-requires : tie.Need-at-most-requires
+at-most-requires c κs = search needs
 
 returns-2 : tie.Need-returns-2
 unfolding sidesOf constantOf
 returns-2 c =
     let c4 = c .before .before .before .before in
-    let f = flag-off 0 (c4 .before .before .by-plant .ensures .0) (c4 .before .if1 .left) in
+    let f = flag-off 0 (c4 .before .by-plant .ensures .0) (c4 .if1 .left) in
     rw f
-    (constant _ _ _ (c .with-constant .ensures) (rw f at (c .before .yearly-build-constant .ensures))
-    (c4 .zero .ensures) (product-is (c .before .before .product .ensures) refl (c .before .before .before .planned-by-year-plant .ensures .0)))
+    (limit _ _ (c .at-most .ensures) (rw f at (c .before .yearly-build-constant .ensures))
+    (product-is (c .before .before .product .ensures) refl (c .before .before .before .planned-by-year-plant .ensures .0)))
 
 pub yearly-build-spec : {M : Type 1} → statement M
 yearly-build-spec =
@@ -48,9 +45,8 @@ yearly-build-spec =
     by-plant-requires
     empty-requires
     returns
-    zero-requires
     planned-by-year-plant-requires
     product-requires
     yearly-build-constant-requires
-    with-constant-requires
+    at-most-requires
     returns-2)

@@ -1,4 +1,3 @@
-use Rattle.rows.specs.Ready.{noSides}
 use borrow.Author.Needs.{needs}
 use Rattle.rows.proofs.two_sums.empty.Statement.{statement}
 use Rattle.rows.proofs.two_sums.empty.Tie as tie
@@ -10,7 +9,6 @@ zero-requires-2 : tie.Need-zero-requires-2
 zero-requires-2 c κs = search needs
 
 returns : tie.Need-returns
-unfolding noSides
 returns c = rw (c .before .zero .ensures, c .zero2 .ensures)
 
 pub empty-spec : {M : Type 1} → statement M
