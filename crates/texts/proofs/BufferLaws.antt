@@ -23,7 +23,7 @@ within-word Dual h = h .dual-within
 within-word Other h = omega arith
 
 -- one number more in a buffer, behind its first n
-pub take-put : {A : Type 0} (b : List A) {b2 : List A} (n : ℕ) {m : ℕ} (x : A) → (m ≡ n + 1) × (b2 ≡ set b n x) → n < length b → take m b2 ≡ take n b ++ (x ∷ [])
+take-put : {A : Type 0} (b : List A) {b2 : List A} (n : ℕ) {m : ℕ} (x : A) → (m ≡ n + 1) × (b2 ≡ set b n x) → n < length b → take m b2 ≡ take n b ++ (x ∷ [])
 take-put b n x e h = rw (e .0, e .1, add-one) (take-suc-set b n x h)
 
 -- one number more of each word

@@ -69,12 +69,13 @@ number-inside {w = w} c h = omega (arith, c .long, mul-le-mul-right (w + 1) h)
 
 -- The numbers of a line
 
--- the numbers s with the first n of a line of the word; none where one of them is none
+-- the numbers so far with the next of a line of the word
 unfoldable pub withNext : Word → Option Lists → Number → Option Lists
 withNext word (some s) (Value v) = some (withNumber word s v)
 withNext word (some s) NoNumber = none
 withNext word none x = none
 
+-- the numbers s with the first n of a line of the word; none where one of them is none
 unfoldable pub withNumbers : Word → List ℕ → Lists → ℕ → Option Lists
 withNumbers word l s zero = some s
 withNumbers word l s (suc n) = withNext word (withNumbers word l s n) (numberAt l (wordLength + n * (digitsOf word + 1)) (digitsOf word))
@@ -96,7 +97,7 @@ module _ (word : Word) (l : List ℕ) (s : Lists) where
   numbers-stop i (suc n) h e =
       ⊎-elim (λ (p : i ≡ n). rw (← p, e) (stop-next _)) (λ (p : i < n). stop-more _ (numbers-stop i n p e)) (eq-or-lt-of-le (le-of-suc-le-suc h))
 
--- a word whose numbers are xs, of which there may be as many more as there is room for: what the definition says of a line of it
+-- a word whose numbers are xs: what the definition says of a line of it, where there may be `room` more of them
 module _ {A : Type 0} (value : ℕ → A) (word : Word) (l : List ℕ) (xs : List A) (with-list : List A → Lists)
     (same : (ys : List A) (v : ℕ) → withNumber word (with-list ys) v ≡ with-list (ys ++ (value v ∷ []))) where
   joined-numbers : (n : ℕ) → Option·map with-list (after xs (numbers value (digitsOf word) l n)) ≡ withNumbers word l (with-list xs) n
@@ -126,7 +127,7 @@ module _ {A : Type 0} (value : ℕ → A) (word : Word) (l : List ℕ) (xs : Lis
 -- What the code of `read_line` finds
 
 module _ (l : List ℕ) (u : Used) (d p s : List ℕ) (m : List ℤ) (room : Room d p s m) (within : Within u) where
-  -- by the count of its numbers and the room for them
+  -- a line of any word, by the count of its numbers and the room for them
   line-is : (w : Word) → lineOf w l (listsIn u d p s m)
       ≡ cond (leb 1 (count (length l) (digitsOf w)) && leb (count (length l) (digitsOf w)) (mostOf w - usedOf w u)) (withNumbers w l (listsIn u d p s m) (count (length l) (digitsOf w))) none
   unfolding lineOf
@@ -174,6 +175,7 @@ pub filled-ready : {word : Word} {l : List ℕ} {old : Lists} {used i n v : ℕ}
 filled-ready {word} {l} f h k e =
     record { room = f .room; within = f .within; not-full = omega (arith, f .upto); low = number-low l _ (digitsOf word) e }
 
+-- the next number put into its buffer
 pub filled-more : {word : Word} {l : List ℕ} {old : Lists} {used i v : ℕ} {u u2 : Used} {d p s d2 p2 s2 : List ℕ} {m m2 : List ℤ} → Filled word l old used i u d p s m
     → numberAt l (wordLength + i * (digitsOf word + 1)) (digitsOf word) ≡ Value v → Room d2 p2 s2 m2 → Added word v u d p s m u2 d2 p2 s2 m2 → Filled word l old used (i + 1) u2 d2 p2 s2 m2
 unfolding withNumbers withNext

@@ -16,7 +16,7 @@ use Rattle.texts.specs.declared.Reading.{Reading}
 use Rattle.texts.specs.declared.Reading.the-variants.{Whole, FrameAt}
 use Rattle.texts.specs.Format.{Lists, Text, frameAt, whole, lineFeed, digits, dualDigits, plain, signed, mostData, mostPlan, mostScal, mostDual, withData, withPlan, withScal, withDual}
 
--- the digits of a number on a line of the word
+-- the digits of a number on a line of the word; of another word no number is read
 abbrev pub digitsOf : Word → ℕ
 digitsOf Data = digits
 digitsOf Plan = digits

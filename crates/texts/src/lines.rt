@@ -65,7 +65,7 @@ fn count_on(bytes: usize, width: usize) -> usize
     ensures { λ r. ⌜ r ≡ count bytes width ⌝ }
 {
     if bytes < WORD_LENGTH {
-        return 0; // a line shorter than its word: none comes here, since `opens` found its four bytes
+        return 0; // a line shorter than a word
     }
     let numbers = bytes - WORD_LENGTH;
     let size = width + 1;
@@ -78,7 +78,7 @@ fn count_on(bytes: usize, width: usize) -> usize
     numbers / size
 }
 
-// The digits of a number on a line of the word.
+// The digits of a number on a line of the word. Of another word no number is read, since `most_of` has none.
 fn digits_of(word: Word) -> usize
     ensures { λ r. ⌜ (r ≡ digitsOf word) × (r ≤ 16) ⌝ }
 {
@@ -145,7 +145,7 @@ fn add_number(word: Word, v: u64, used: Used, data: &mut [u32], plan: &mut [u32]
         Word::Plan => Used { data: used.data, plan: put_unsigned(plan, used.plan, v), scal: used.scal, dual: used.dual },
         Word::Scal => Used { data: used.data, plan: used.plan, scal: put_unsigned(scal, used.scal, v), dual: used.dual },
         Word::Dual => Used { data: used.data, plan: used.plan, scal: used.scal, dual: put_signed(dual, used.dual, signed_of(v)) },
-        Word::Other => used, // never reached: there is no room for a number of another word
+        Word::Other => used, // never reached: there is no room for a number of another word (the law `other-full`)
     }
 }
 

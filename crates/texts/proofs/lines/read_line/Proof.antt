@@ -2,7 +2,6 @@ use mathlib.Core.Path.{_≡_, sym, ap, _∙_}
 use Prim.Native.Nat.{_-_, _≤_}
 use native.Mathlib.Omega.{arith}
 use borrow.Author.Needs.{needs}
-use lib.ListN.{length}
 use Rattle.texts.specs.Buffers.{usedOf, listsIn, lineIn}
 use Rattle.texts.specs.Format.{count}
 use Rattle.texts.proofs.BufferLaws.{within-word, room-kept}
