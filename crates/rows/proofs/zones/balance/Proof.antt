@@ -1,12 +1,11 @@
 use mathlib.Core.Path.{refl}
 use Prim.Native.Nat.{_*_}
-use native.Mathlib.Omega.{arith}
 use lib.Dec.{eqb}
 use Rattle.sums.specs.Sum.{on}
 use Rattle.model.specs.Data.{read, zone}
 use Rattle.constants.specs.Constants.{constantOf}
 use Rattle.rows.specs.Ready.{sidesOf}
-use Rattle.rows.proofs.Laws.{constant, plus-is, join-is, part-sum, zone-slice}
+use Rattle.rows.proofs.Laws.{constant, plus-is, join-is, part-sum}
 use borrow.Author.Needs.{needs}
 use Rattle.rows.proofs.zones.balance.Statement.{statement}
 use Rattle.rows.proofs.zones.balance.Tie as tie
