@@ -84,7 +84,7 @@ fn sides_at(data: &[u32], plan: &[u32], energy: &EnergyTable, tables_at: &Starts
     let places = c.plants * slices_of(c);
     let outputs = year_part(plan, columns_at[GEN], places, p.year);
     let reserves = year_part(plan, columns_at[RESERVE], places, p.year);
-    row_sides(data, plan, outputs, reserves, energy, tables_at, columns_at, c, scale, p.kind, p.year, p.first, p.second, p.slice)
+    row_sides(data, plan, outputs, reserves, energy, tables_at, columns_at, c, scale, p)
 }
 
 // A row of data and plan that passed refusals 1 to 5.

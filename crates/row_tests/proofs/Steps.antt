@@ -60,7 +60,7 @@ module _ (c : Counts) {k : ℕ} {f : Family} {b : Box} (l : k < familyCount) (e 
   pub year-below : {y : ℕ} → Counted c → y < b .years → y < c .years
   year-below n hy = omega (arith, few-years c (n .someYears) k l, ap (λ (a : Box). a .years) box-is)
 
--- there are twenty families
+-- as many families as the walk counts
 pub family-below : (c : Counts) {k : ℕ} → k < familyCount → k < length (rowBoxes c)
 unfolding rowBoxes
 family-below c l = l

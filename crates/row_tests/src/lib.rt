@@ -8,6 +8,7 @@ use model::Refusal;
 use parts::years::year_part;
 use rows::Sides;
 use rows::families::row_sides;
+use sums::Place;
 use tables::names::GEN;
 use tables::names::RESERVE;
 use tables::sets::box_of;
@@ -17,7 +18,7 @@ use tables::starts::Starts;
 ghost use mathlib.Core.Path.{_≡_};
 ghost use Prim.Native.Nat.{_<_};
 ghost use Rattle.sums.specs.Span.{fine};
-ghost use Rattle.sums.specs.Index.{index, number};
+ghost use Rattle.sums.specs.Index.{number, indexOf};
 ghost use Rattle.model.specs.Data.{read};
 ghost use Rattle.model.specs.Families.{familyOf, rowBoxes, familyCount};
 ghost use Rattle.model.specs.Tests.{entriesFault, rowFault, rowsFault};
@@ -55,12 +56,13 @@ fn verdict(sides: Sides, equal: bool, row: usize) -> Outcome
 // The test of one row, whose number is `row`. Whether its family is one of equalities is looked up once for the family, by the caller.
 fn test_row(
     data: &[u32], plan: &[u32], outputs: &[u32], reserves: &[u32], energy: &EnergyTable, tables_at: &Starts,
-    columns_at: &Starts, c: Counts, scale: u64, k: usize, y: usize, i: usize, j: usize, s: usize, equal: bool, row: usize,
+    columns_at: &Starts, c: Counts, scale: u64, p: Place, equal: bool, row: usize,
 ) -> Outcome
-    requires { ⌜ Ready (now «data») (now plan) (now outputs) (now reserves) (now energy) (now «tables_at») (now «columns_at») c y × ((k < familyCount) × (Inside c (familyOf k .set) y i j s × ((equal ≡ familyOf k .equal) × (row ≡ number (rowBoxes c) (index k y i j s))))) ⌝ }
-    ensures { λ r. ⌜ r ≡ outcome (rowFault (read (now («data» .entry))) scale (planEntry c (now (plan .entry))) (index k y i j s)) ⌝ }
+    requires { ⌜ Ready (now «data») (now plan) (now outputs) (now reserves) (now energy) (now «tables_at») (now «columns_at») c (p .year)
+        × ((p .kind < familyCount) × (Inside c (familyOf (p .kind) .set) (p .year) (p .first) (p .second) (p .slice) × ((equal ≡ familyOf (p .kind) .equal) × (row ≡ number (rowBoxes c) (indexOf p))))) ⌝ }
+    ensures { λ r. ⌜ r ≡ outcome (rowFault (read (now («data» .entry))) scale (planEntry c (now (plan .entry))) (indexOf p)) ⌝ }
 {
-    let sides = row_sides(data, plan, outputs, reserves, energy, tables_at, columns_at, c, scale, k, y, i, j, s);
+    let sides = row_sides(data, plan, outputs, reserves, energy, tables_at, columns_at, c, scale, p);
     verdict(sides, equal, row)
 }
 
@@ -81,7 +83,8 @@ pub fn test_rows(data: &[u32], plan: &[u32], energy: &EnergyTable, tables_at: &S
             for i in 0..b.firsts {
                 for j in 0..b.seconds {
                     for s in 0..b.slices {
-                        match test_row(data, plan, outputs, reserves, energy, tables_at, columns_at, c, scale, k, y, i, j, s, f.equal, row) {
+                        let p = Place { kind: k, year: y, first: i, second: j, slice: s };
+                        match test_row(data, plan, outputs, reserves, energy, tables_at, columns_at, c, scale, p, f.equal, row) {
                             Outcome::Fine => row += 1,
                             Outcome::Fails(r) => {
                                 answer = Outcome::Fails(r);

@@ -17,8 +17,8 @@ use Rattle.sums.specs.Sum.{sum, on}
 use Rattle.sums.specs.Index.{index}
 use Rattle.sums.proofs.Sums.{sum-cong}
 use Rattle.model.specs.declared.Counts.{Counts}
-use Rattle.model.specs.Counts.{slicesOf, [yzs]}
-use Rattle.tables.specs.Layout.{Inside, planEntry}
+use Rattle.model.specs.Counts.{slicesOf}
+use Rattle.tables.specs.Layout.{planEntry}
 use Rattle.parts.specs.Years.{YearPart}
 use Rattle.parts.proofs.Laws.{after-first}
 use Rattle.terms.proofs.Laws.{plus-on}
@@ -115,8 +115,3 @@ module _ {r : Bool} {kind year K Y : ℕ} (now : ℕ) (e : r ≡ not (out kind y
 
   pub idle : r ≡ false → out K Y now ≡ true
   idle h = rw (← p, ← q) (not-false (out kind year now) (sym e ∙ h))
-
--- What the readers ask
-
-pub zone-slice : {c : Counts} {y z s : ℕ} → y < c .years → z < c .zones → s < slicesOf c → Inside c [yzs] y z 0 s
-zone-slice hy hz hs = record { year = hy; «first» = hz; second = omega arith; slice = hs }

@@ -60,8 +60,7 @@ pub fn loading(
     data: &[u32], plan: &[u32], outputs: &[u32], reserves: &[u32], tables_at: &Starts, columns_at: &Starts, c: Counts,
     y: usize, g: usize, s: usize,
 ) -> Sides
-    requires { ⌜ TablesAt (now «data») (now «tables_at») c × (ColumnsAt (now plan) (now «columns_at») c × (YearPart (now plan) (now outputs) c 3 y × (YearPart (now plan) (now reserves) c 4 y
-        × ((y < c .years) × ((g < c .plants) × (s < slicesOf c)))))) ⌝ }
+    requires { ⌜ (TablesAt (now «data») (now «tables_at») c × (ColumnsAt (now plan) (now «columns_at») c × (YearPart (now plan) (now outputs) c 3 y × YearPart (now plan) (now reserves) c 4 y))) × ((y < c .years) × ((g < c .plants) × (s < slicesOf c))) ⌝ }
     ensures { λ r. ⌜ ((N : ℕ) → r ≡ sidesOf (read (now («data» .entry))) N (planEntry c (now (plan .entry))) (row 5 y g 0 s)) ⌝ }
 {
     let rate = 1000 + by_plant(data, tables_at, c, OVER_LOAD, g);
@@ -76,7 +75,7 @@ pub fn offer(
     data: &[u32], plan: &[u32], reserves: &[u32], tables_at: &Starts, columns_at: &Starts, c: Counts, y: usize, g: usize,
     s: usize,
 ) -> Sides
-    requires { ⌜ TablesAt (now «data») (now «tables_at») c × (ColumnsAt (now plan) (now «columns_at») c × (YearPart (now plan) (now reserves) c 4 y × ((y < c .years) × ((g < c .plants) × (s < slicesOf c))))) ⌝ }
+    requires { ⌜ (TablesAt (now «data») (now «tables_at») c × (ColumnsAt (now plan) (now «columns_at») c × YearPart (now plan) (now reserves) c 4 y)) × ((y < c .years) × ((g < c .plants) × (s < slicesOf c))) ⌝ }
     ensures { λ r. ⌜ ((N : ℕ) → r ≡ sidesOf (read (now («data» .entry))) N (planEntry c (now (plan .entry))) (row 6 y g 0 s)) ⌝ }
 {
     let rate = by_plant(data, tables_at, c, RES_OFFER, g);
@@ -91,7 +90,7 @@ pub fn ramp_down(
     data: &[u32], plan: &[u32], outputs: &[u32], tables_at: &Starts, columns_at: &Starts, c: Counts, y: usize, g: usize,
     s: usize,
 ) -> Sides
-    requires { ⌜ TablesAt (now «data») (now «tables_at») c × (ColumnsAt (now plan) (now «columns_at») c × (YearPart (now plan) (now outputs) c 3 y × ((y < c .years) × ((g < c .plants) × (s < slicesOf c))))) ⌝ }
+    requires { ⌜ (TablesAt (now «data») (now «tables_at») c × (ColumnsAt (now plan) (now «columns_at») c × YearPart (now plan) (now outputs) c 3 y)) × ((y < c .years) × ((g < c .plants) × (s < slicesOf c))) ⌝ }
     ensures { λ r. ⌜ ((N : ℕ) → r ≡ sidesOf (read (now («data» .entry))) N (planEntry c (now (plan .entry))) (row 7 y g 0 s)) ⌝ }
 {
     if first_hour(c, s) {
@@ -106,7 +105,7 @@ pub fn ramp_up(
     data: &[u32], plan: &[u32], outputs: &[u32], tables_at: &Starts, columns_at: &Starts, c: Counts, y: usize, g: usize,
     s: usize,
 ) -> Sides
-    requires { ⌜ TablesAt (now «data») (now «tables_at») c × (ColumnsAt (now plan) (now «columns_at») c × (YearPart (now plan) (now outputs) c 3 y × ((y < c .years) × ((g < c .plants) × (s < slicesOf c))))) ⌝ }
+    requires { ⌜ (TablesAt (now «data») (now «tables_at») c × (ColumnsAt (now plan) (now «columns_at») c × YearPart (now plan) (now outputs) c 3 y)) × ((y < c .years) × ((g < c .plants) × (s < slicesOf c))) ⌝ }
     ensures { λ r. ⌜ ((N : ℕ) → r ≡ sidesOf (read (now («data» .entry))) N (planEntry c (now (plan .entry))) (row 8 y g 0 s)) ⌝ }
 {
     if first_hour(c, s) {
@@ -120,7 +119,7 @@ pub fn ramp_up(
 fn ramp(
     plan: &[u32], outputs: &[u32], columns_at: &Starts, c: Counts, rate: u64, y: usize, g: usize, more: usize, less: usize,
 ) -> Sides
-    requires { ⌜ Counted c × (ColumnsAt (now plan) (now «columns_at») c × (YearPart (now plan) (now outputs) c 3 y × ((y < c .years) × ((g < c .plants) × ((more < slicesOf c) × (less < slicesOf c)))))) ⌝ }
+    requires { ⌜ (Counted c × (ColumnsAt (now plan) (now «columns_at») c × YearPart (now plan) (now outputs) c 3 y)) × ((y < c .years) × ((g < c .plants) × ((more < slicesOf c) × (less < slicesOf c)))) ⌝ }
     ensures { λ r. ⌜ r ≡ sides (rate * planEntry c (now (plan .entry)) (capColumn y g) + 1000 * planEntry c (now (plan .entry)) (gen y g less)) (1000 * planEntry c (now (plan .entry)) (gen y g more)) ⌝ }
 {
     let allowed = rate_of_capacity(plan, columns_at, c, rate, y, g);
@@ -135,7 +134,7 @@ pub fn minimum_load(
     data: &[u32], plan: &[u32], outputs: &[u32], tables_at: &Starts, columns_at: &Starts, c: Counts, y: usize, g: usize,
     s: usize,
 ) -> Sides
-    requires { ⌜ TablesAt (now «data») (now «tables_at») c × (ColumnsAt (now plan) (now «columns_at») c × (YearPart (now plan) (now outputs) c 3 y × ((y < c .years) × ((g < c .plants) × (s < slicesOf c))))) ⌝ }
+    requires { ⌜ (TablesAt (now «data») (now «tables_at») c × (ColumnsAt (now plan) (now «columns_at») c × YearPart (now plan) (now outputs) c 3 y)) × ((y < c .years) × ((g < c .plants) × (s < slicesOf c))) ⌝ }
     ensures { λ r. ⌜ ((N : ℕ) → r ≡ sidesOf (read (now («data» .entry))) N (planEntry c (now (plan .entry))) (row 9 y g 0 s)) ⌝ }
 {
     if by_day(data, tables_at, c, MIN_LOAD, season_of(c, s), day_of(c, s)) != 1 {
@@ -153,8 +152,7 @@ pub fn available(
     data: &[u32], plan: &[u32], energy: &EnergyTable, tables_at: &Starts, columns_at: &Starts, c: Counts, y: usize,
     g: usize, q: usize,
 ) -> Sides
-    requires { ⌜ TablesAt (now «data») (now «tables_at») c × (ColumnsAt (now plan) (now «columns_at») c × (Energies (read (now «data»)) (planEntry c (now plan)) (now energy) c
-        × ((y < c .years) × ((g < c .plants) × (q < c .seasons))))) ⌝ }
+    requires { ⌜ (TablesAt (now «data») (now «tables_at») c × (ColumnsAt (now plan) (now «columns_at») c × Energies (read (now «data»)) (planEntry c (now plan)) (now energy) c)) × ((y < c .years) × ((g < c .plants) × (q < c .seasons))) ⌝ }
     ensures { λ r. ⌜ ((N : ℕ) → r ≡ sidesOf (read (now («data» .entry))) N (planEntry c (now (plan .entry))) (row 10 y g 0 q)) ⌝ }
 {
     let rate = by_plant_season(data, tables_at, c, AVAILABILITY, g, q);
@@ -175,7 +173,7 @@ pub fn profiled(
     data: &[u32], plan: &[u32], outputs: &[u32], tables_at: &Starts, columns_at: &Starts, c: Counts, y: usize, g: usize,
     s: usize,
 ) -> Sides
-    requires { ⌜ TablesAt (now «data») (now «tables_at») c × (ColumnsAt (now plan) (now «columns_at») c × (YearPart (now plan) (now outputs) c 3 y × ((y < c .years) × ((g < c .plants) × (s < slicesOf c))))) ⌝ }
+    requires { ⌜ (TablesAt (now «data») (now «tables_at») c × (ColumnsAt (now plan) (now «columns_at») c × YearPart (now plan) (now outputs) c 3 y)) × ((y < c .years) × ((g < c .plants) × (s < slicesOf c))) ⌝ }
     ensures { λ r. ⌜ ((N : ℕ) → r ≡ sidesOf (read (now («data» .entry))) N (planEntry c (now (plan .entry))) (row 11 y g 0 s)) ⌝ }
 {
     if by_plant(data, tables_at, c, VRE, g) != 1 {

@@ -46,7 +46,7 @@ ghost use Rattle.rows.specs.Ready.{sidesOf};
 pub fn stock(
     data: &[u32], plan: &[u32], tables_at: &Starts, columns_at: &Starts, c: Counts, scale: u64, y: usize, g: usize,
 ) -> Sides
-    requires { ⌜ TablesAt (now «data») (now «tables_at») c × (ColumnsAt (now plan) (now «columns_at») c × ((y < c .years) × (g < c .plants))) ⌝ }
+    requires { ⌜ (TablesAt (now «data») (now «tables_at») c × ColumnsAt (now plan) (now «columns_at») c) × ((y < c .years) × (g < c .plants)) ⌝ }
     ensures { λ r. ⌜ r ≡ sidesOf (read (now («data» .entry))) scale (planEntry c (now (plan .entry))) (row 12 y g 0 0) ⌝ }
 {
     let own = capped::product(1, planned_by_year_plant(plan, columns_at, c, CAP, y, g));
@@ -72,7 +72,7 @@ pub fn stock(
 
 // 13 (37): cap ≤ 0 for an existing plant from its retirement year on, for a candidate before its commission year
 pub fn life(data: &[u32], plan: &[u32], tables_at: &Starts, columns_at: &Starts, c: Counts, y: usize, g: usize) -> Sides
-    requires { ⌜ TablesAt (now «data») (now «tables_at») c × (ColumnsAt (now plan) (now «columns_at») c × ((y < c .years) × (g < c .plants))) ⌝ }
+    requires { ⌜ (TablesAt (now «data») (now «tables_at») c × ColumnsAt (now plan) (now «columns_at») c) × ((y < c .years) × (g < c .plants)) ⌝ }
     ensures { λ r. ⌜ ((N : ℕ) → r ≡ sidesOf (read (now («data» .entry))) N (planEntry c (now (plan .entry))) (row 13 y g 0 0)) ⌝ }
 {
     if in_service(
@@ -90,7 +90,7 @@ pub fn life(data: &[u32], plan: &[u32], tables_at: &Starts, columns_at: &Starts,
 
 // 14 (61): existing: in the first year build + retire ≤ 0, later build ≤ 0; candidate: retire ≤ 0
 pub fn fixed(data: &[u32], plan: &[u32], tables_at: &Starts, columns_at: &Starts, c: Counts, y: usize, g: usize) -> Sides
-    requires { ⌜ TablesAt (now «data») (now «tables_at») c × (ColumnsAt (now plan) (now «columns_at») c × ((y < c .years) × (g < c .plants))) ⌝ }
+    requires { ⌜ (TablesAt (now «data») (now «tables_at») c × ColumnsAt (now plan) (now «columns_at») c) × ((y < c .years) × (g < c .plants)) ⌝ }
     ensures { λ r. ⌜ ((N : ℕ) → r ≡ sidesOf (read (now («data» .entry))) N (planEntry c (now (plan .entry))) (row 14 y g 0 0)) ⌝ }
 {
     let retire = planned_by_year_plant(plan, columns_at, c, RETIRE, y, g);
@@ -109,7 +109,7 @@ pub fn fixed(data: &[u32], plan: &[u32], tables_at: &Starts, columns_at: &Starts
 
 // 15 (55), candidate: Σ build ≤ MaxNewCap
 pub fn new_capacity(data: &[u32], plan: &[u32], tables_at: &Starts, columns_at: &Starts, c: Counts, scale: u64, g: usize) -> Sides
-    requires { ⌜ TablesAt (now «data») (now «tables_at») c × (ColumnsAt (now plan) (now «columns_at») c × (g < c .plants)) ⌝ }
+    requires { ⌜ (TablesAt (now «data») (now «tables_at») c × ColumnsAt (now plan) (now «columns_at») c) × (g < c .plants) ⌝ }
     ensures { λ r. ⌜ r ≡ sidesOf (read (now («data» .entry))) scale (planEntry c (now (plan .entry))) (row 15 0 g 0 0) ⌝ }
 {
     if by_plant(data, tables_at, c, KIND, g) == 0 {
@@ -126,7 +126,7 @@ pub fn new_capacity(data: &[u32], plan: &[u32], tables_at: &Starts, columns_at: 
 pub fn yearly_build(
     data: &[u32], plan: &[u32], tables_at: &Starts, columns_at: &Starts, c: Counts, scale: u64, y: usize, g: usize,
 ) -> Sides
-    requires { ⌜ TablesAt (now «data») (now «tables_at») c × (ColumnsAt (now plan) (now «columns_at») c × ((y < c .years) × (g < c .plants))) ⌝ }
+    requires { ⌜ (TablesAt (now «data») (now «tables_at») c × ColumnsAt (now plan) (now «columns_at») c) × ((y < c .years) × (g < c .plants)) ⌝ }
     ensures { λ r. ⌜ r ≡ sidesOf (read (now («data» .entry))) scale (planEntry c (now (plan .entry))) (row 16 y g 0 0) ⌝ }
 {
     if by_plant(data, tables_at, c, KIND, g) == 0 {
@@ -141,7 +141,7 @@ pub fn yearly_build(
 
 // 17 (62): Σ Dur·HeatRate·gen of that zone and fuel ≤ 1000·MaxFuel
 pub fn fuel_use(data: &[u32], energy: &EnergyTable, tables_at: &Starts, c: Counts, scale: u64, y: usize, z: usize, f: usize) -> Sides
-    requires { ⌜ TablesAt (now «data») (now «tables_at») c × ((length (now energy) ≡ energyCount) × ((y < c .years) × ((z < c .zones) × (f < c .fuels)))) ⌝ }
+    requires { ⌜ (TablesAt (now «data») (now «tables_at») c × (length (now energy) ≡ energyCount)) × ((y < c .years) × ((z < c .zones) × (f < c .fuels))) ⌝ }
     ensures { λ r. ⌜ ((x : Index → ℕ) → Energies (read (now («data» .entry))) x (now (energy .entry)) c → r ≡ sidesOf (read (now («data» .entry))) scale x (row 17 y z f 0)) ⌝ }
 {
     at_most(
@@ -165,7 +165,7 @@ pub fn capital(data: &[u32], plan: &[u32], tables_at: &Starts, columns_at: &Star
 
 // 19 (66): Σ Dur·E·gen in z ≤ 1000·zone cap
 pub fn zone_emission(data: &[u32], energy: &EnergyTable, tables_at: &Starts, c: Counts, scale: u64, y: usize, z: usize) -> Sides
-    requires { ⌜ TablesAt (now «data») (now «tables_at») c × ((length (now energy) ≡ energyCount) × ((y < c .years) × (z < c .zones))) ⌝ }
+    requires { ⌜ (TablesAt (now «data») (now «tables_at») c × (length (now energy) ≡ energyCount)) × ((y < c .years) × (z < c .zones)) ⌝ }
     ensures { λ r. ⌜ ((x : Index → ℕ) → Energies (read (now («data» .entry))) x (now (energy .entry)) c → r ≡ sidesOf (read (now («data» .entry))) scale x (row 19 y z 0 0)) ⌝ }
 {
     at_most(
@@ -177,7 +177,7 @@ pub fn zone_emission(data: &[u32], energy: &EnergyTable, tables_at: &Starts, c: 
 
 // 20 (68): Σ Dur·E·gen ≤ 1000·system cap
 pub fn system_emission(data: &[u32], energy: &EnergyTable, tables_at: &Starts, c: Counts, scale: u64, y: usize) -> Sides
-    requires { ⌜ TablesAt (now «data») (now «tables_at») c × ((length (now energy) ≡ energyCount) × (y < c .years)) ⌝ }
+    requires { ⌜ (TablesAt (now «data») (now «tables_at») c × (length (now energy) ≡ energyCount)) × (y < c .years) ⌝ }
     ensures { λ r. ⌜ ((x : Index → ℕ) → Energies (read (now («data» .entry))) x (now (energy .entry)) c → r ≡ sidesOf (read (now («data» .entry))) scale x (row 20 y 0 0 0)) ⌝ }
 {
     at_most(

@@ -42,8 +42,7 @@ pub fn balance(
     data: &[u32], plan: &[u32], outputs: &[u32], tables_at: &Starts, columns_at: &Starts, c: Counts, scale: u64,
     y: usize, z: usize, s: usize,
 ) -> Sides
-    requires { ⌜ TablesAt (now «data») (now «tables_at») c × ((entriesFault (read (now «data»)) ≡ fine) × (ColumnsAt (now plan) (now «columns_at») c × (YearPart (now plan) (now outputs) c 3 y
-        × ((y < c .years) × ((z < c .zones) × (s < slicesOf c)))))) ⌝ }
+    requires { ⌜ (TablesAt (now «data») (now «tables_at») c × ((entriesFault (read (now «data»)) ≡ fine) × (ColumnsAt (now plan) (now «columns_at») c × YearPart (now plan) (now outputs) c 3 y))) × ((y < c .years) × ((z < c .zones) × (s < slicesOf c))) ⌝ }
     ensures { λ r. ⌜ r ≡ sidesOf (read (now («data» .entry))) scale (planEntry c (now (plan .entry))) (row 1 y z 0 s) ⌝ }
 {
     let made = zone_sum(data, tables_at, c, outputs, long(z), s);
@@ -66,7 +65,7 @@ pub fn transfer(
     data: &[u32], plan: &[u32], tables_at: &Starts, columns_at: &Starts, c: Counts, scale: u64, y: usize, z: usize,
     w: usize, s: usize,
 ) -> Sides
-    requires { ⌜ TablesAt (now «data») (now «tables_at») c × (ColumnsAt (now plan) (now «columns_at») c × ((y < c .years) × ((z < c .zones) × ((w < c .zones) × (s < slicesOf c))))) ⌝ }
+    requires { ⌜ (TablesAt (now «data») (now «tables_at») c × ColumnsAt (now plan) (now «columns_at») c) × ((y < c .years) × ((z < c .zones) × ((w < c .zones) × (s < slicesOf c)))) ⌝ }
     ensures { λ r. ⌜ r ≡ sidesOf (read (now («data» .entry))) scale (planEntry c (now (plan .entry))) (row 2 y z w s) ⌝ }
 {
     let flow = capped::product(1, planned_by_link_slice(plan, columns_at, c, TRANS, y, z, w, s));
@@ -78,8 +77,7 @@ pub fn spinning(
     data: &[u32], plan: &[u32], outputs: &[u32], reserves: &[u32], tables_at: &Starts, columns_at: &Starts, c: Counts,
     scale: u64, y: usize, z: usize, s: usize,
 ) -> Sides
-    requires { ⌜ TablesAt (now «data») (now «tables_at») c × (ColumnsAt (now plan) (now «columns_at») c × (YearPart (now plan) (now outputs) c 3 y × (YearPart (now plan) (now reserves) c 4 y
-        × ((y < c .years) × ((z < c .zones) × (s < slicesOf c)))))) ⌝ }
+    requires { ⌜ (TablesAt (now «data») (now «tables_at») c × (ColumnsAt (now plan) (now «columns_at») c × (YearPart (now plan) (now outputs) c 3 y × YearPart (now plan) (now reserves) c 4 y))) × ((y < c .years) × ((z < c .zones) × (s < slicesOf c))) ⌝ }
     ensures { λ r. ⌜ r ≡ sidesOf (read (now («data» .entry))) scale (planEntry c (now (plan .entry))) (row 3 y z 0 s) ⌝ }
 {
     let held = zone_sum(data, tables_at, c, reserves, long(z), s);
@@ -100,7 +98,7 @@ pub fn spinning(
 pub fn firm(
     data: &[u32], plan: &[u32], tables_at: &Starts, columns_at: &Starts, c: Counts, scale: u64, y: usize, z: usize,
 ) -> Sides
-    requires { ⌜ TablesAt (now «data») (now «tables_at») c × ((entriesFault (read (now «data»)) ≡ fine) × (ColumnsAt (now plan) (now «columns_at») c × ((y < c .years) × (z < c .zones)))) ⌝ }
+    requires { ⌜ (TablesAt (now «data») (now «tables_at») c × ((entriesFault (read (now «data»)) ≡ fine) × ColumnsAt (now plan) (now «columns_at») c)) × ((y < c .years) × (z < c .zones)) ⌝ }
     ensures { λ r. ⌜ r ≡ sidesOf (read (now («data» .entry))) scale (planEntry c (now (plan .entry))) (row 4 y z 0 0) ⌝ }
 {
     let credit = credit_sum(data, plan, tables_at, columns_at, c, y, long(z));

@@ -36,13 +36,12 @@ returns c N =
     let c9 = c4 .before .before .before .before .before in
     let p = c9 .pre in
     let D = read (c9 .args .«data» .now) in
-    let n = p .0 .counts in
-    let h = p .1 .1 .1 in
+    let n = p .0 .0 .counts in
     plain N _ _
     (two-sums _ _
     (product3-is (c .before .before .add-product3 .ensures) (c4 .before .zero .ensures) (c4 .before .before .by-plant-season .ensures .0)
     (c4 .season-hours .ensures .0 ∙ season-is D _ (λ s. duration D s) n refl) (c .before .before .before .planned-by-year-plant .ensures .0))
-    (c .scale .ensures ∙ rw (c .before .energy-at .ensures) (available-energy (p .1 .1 .0) n (h .0) _ _ (h .1 .0) (h .1 .1))))
+    (c .scale .ensures ∙ rw (c .before .energy-at .ensures) (available-energy (p .0 .1 .1) n (p .1 .0) _ _ (p .1 .1 .0) (p .1 .1 .1))))
 
 pub available-spec : {M : Type 1} → statement M
 available-spec =

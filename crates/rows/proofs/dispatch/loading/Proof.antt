@@ -29,11 +29,11 @@ unfolding sidesOf
 returns c N =
     let c4 = c .before .before .before .before in
     let p = c4 .before .before .before .before .before .pre in
-    let hg = p .1 .1 .1 .1 .1 .0 in
-    let hs = p .1 .1 .1 .1 .1 .1 in
+    let hg = p .1 .1 .0 in
+    let hs = p .1 .1 .1 in
     plain N _ _
     (two-sums _ _ (product-is (c .before .before .before .rate-of-capacity .ensures) (ap (λ (v : ℕ). 1000 + v) (c4 .by-plant .ensures .0)) refl)
-    (join-is _ _ (c .join .ensures) (part-entry (p .1 .1 .0) hg hs (c .before .before .in-thousandths .ensures)) (part-entry (p .1 .1 .1 .0) hg hs (c .before .in-thousandths2 .ensures))))
+    (join-is _ _ (c .join .ensures) (part-entry (p .0 .1 .1 .0) hg hs (c .before .before .in-thousandths .ensures)) (part-entry (p .0 .1 .1 .1) hg hs (c .before .in-thousandths2 .ensures))))
 
 pub loading-spec : {M : Type 1} → statement M
 loading-spec =

@@ -23,7 +23,7 @@ unfolding sidesOf
 returns c N =
     let c4 = c .before .before .before .before in
     let p = c4 .before .before .before .before .pre in
-    rw (p .0 .counts, ← c4 .season-of .ensures .0, ← c .before .before .before .day-of .ensures .0, flag-off 1 (c .before .before .by-day .ensures .0) (c .before .if1 .taken))
+    rw (p .0 .0 .counts, ← c4 .season-of .ensures .0, ← c .before .before .before .day-of .ensures .0, flag-off 1 (c .before .before .by-day .ensures .0) (c .before .if1 .taken))
     (plain N 0 0 (c .empty .ensures))
 
 by-plant-requires : tie.Need-by-plant-requires
@@ -40,9 +40,9 @@ unfolding sidesOf
 returns-2 c N =
     let c4 = c .before .before .before .before in
     let p = c4 .before .before .before .before .before .before .pre in
-    rw (p .0 .counts, ← c4 .before .before .season-of .ensures .0, ← c4 .before .day-of .ensures .0, flag-on 1 (c4 .by-day .ensures .0) (c .before .before .before .if1 .left))
+    rw (p .0 .0 .counts, ← c4 .before .before .season-of .ensures .0, ← c4 .before .day-of .ensures .0, flag-on 1 (c4 .by-day .ensures .0) (c .before .before .before .if1 .left))
     (plain N _ _
-    (two-sums _ _ (part-entry (p .1 .1 .0) (p .1 .1 .1 .1 .0) (p .1 .1 .1 .1 .1) (c .before .in-thousandths .ensures))
+    (two-sums _ _ (part-entry (p .0 .1 .1) (p .1 .1 .0) (p .1 .1 .1) (c .before .in-thousandths .ensures))
     (product-is (c .rate-of-capacity .ensures) (c .before .before .by-plant .ensures .0) refl)))
 
 pub minimum-load-spec : {M : Type 1} → statement M

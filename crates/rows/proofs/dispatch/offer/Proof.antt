@@ -20,7 +20,7 @@ returns c N =
     let p = c .before .before .before .before .before .before .pre in
     plain N _ _
     (two-sums _ _ (product-is (c .before .rate-of-capacity .ensures) (c .before .before .by-plant .ensures .0) refl)
-    (part-entry (p .1 .1 .0) (p .1 .1 .1 .1 .0) (p .1 .1 .1 .1 .1) (c .in-thousandths .ensures)))
+    (part-entry (p .0 .1 .1) (p .1 .1 .0) (p .1 .1 .1) (c .in-thousandths .ensures)))
 
 pub offer-spec : {M : Type 1} → statement M
 offer-spec =

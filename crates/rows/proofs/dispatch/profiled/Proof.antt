@@ -33,7 +33,7 @@ returns-2 c N =
     rw (flag-on 1 (c4 .by-plant .ensures .0) (c .before .before .before .if1 .left))
     (plain N _ _
     (two-sums _ _ (product-is (c .before .rate-of-capacity .ensures) (c .before .before .by-plant-slice .ensures .0) refl)
-    (part-entry (p .1 .1 .0) (p .1 .1 .1 .1 .0) (p .1 .1 .1 .1 .1) (c .in-thousandths .ensures))))
+    (part-entry (p .0 .1 .1) (p .1 .1 .0) (p .1 .1 .1) (c .in-thousandths .ensures))))
 
 pub profiled-spec : {M : Type 1} → statement M
 profiled-spec =

@@ -1,4 +1,3 @@
-use mathlib.Core.Path.{refl}
 use Rattle.rows.proofs.Laws.{join-is, part-entry, two-sums}
 use borrow.Author.Needs.{needs}
 use Rattle.rows.proofs.dispatch.ramp.Statement.{statement}
@@ -19,10 +18,10 @@ in-thousandths-requires-2 c κs = search needs
 returns : tie.Need-returns
 returns c =
     let p = c .before .before .before .before .before .before .pre in
-    let hg = p .1 .1 .1 .1 .0 in
-    let h = p .1 .1 .1 .1 .1 in
-    two-sums _ _ (join-is _ _ (c .before .join .ensures) (c .before .before .before .rate-of-capacity .ensures) (part-entry (p .1 .1 .0) hg (h .1) (c .before .before .in-thousandths .ensures)))
-    (part-entry (p .1 .1 .0) hg (h .0) (c .in-thousandths2 .ensures))
+    let hg = p .1 .1 .0 in
+    let h = p .1 .1 .1 in
+    two-sums _ _ (join-is _ _ (c .before .join .ensures) (c .before .before .before .rate-of-capacity .ensures) (part-entry (p .0 .1 .1) hg (h .1) (c .before .before .in-thousandths .ensures)))
+    (part-entry (p .0 .1 .1) hg (h .0) (c .in-thousandths2 .ensures))
 
 pub ramp-spec : {M : Type 1} → statement M
 ramp-spec =

@@ -1,5 +1,4 @@
 use mathlib.Core.Path.{_∙_}
-use native.Mathlib.Omega.{arith}
 use Rattle.rows.specs.Ready.{sidesOf}
 use Rattle.rows.proofs.Laws.{plain, first-hour, later-hour, some-before}
 use borrow.Author.Needs.{needs}
@@ -16,7 +15,7 @@ returns : tie.Need-returns
 unfolding sidesOf
 returns c N =
     let p = c .before .before .before .before .before .before .pre in
-    rw (p .0 .counts, first-hour _ (c .before .before .first-hour .ensures) (c .before .if1 .taken)) (plain N 0 0 (c .empty .ensures))
+    rw (p .0 .0 .counts, first-hour _ (c .before .before .first-hour .ensures) (c .before .if1 .taken)) (plain N 0 0 (c .empty .ensures))
 
 by-plant-requires : tie.Need-by-plant-requires
 by-plant-requires c κs = search needs
@@ -25,16 +24,13 @@ sub-ramp : tie.Need-sub-ramp
 sub-ramp c = some-before _ _ (c .before .before .first-hour .ensures) (c .before .if1 .left)
 
 ramp-requires : tie.Need-ramp-requires
-ramp-requires c κs =
-    let p = c .before .before .before .before .before .before .pre in
-    let h = p .1 .1 .1 in
-    (p .0 .counted, (p .1 .0, (p .1 .1 .0, (h .0, (h .1 .0, (omega arith, h .1 .1))))))
+ramp-requires c κs = (search needs, search needs)
 
 returns-2 : tie.Need-returns-2
 unfolding sidesOf
 returns-2 c N =
     let p = c .before .before .before .before .before .before .before .pre in
-    rw (p .0 .counts, later-hour _ (c .before .before .before .first-hour .ensures) (c .before .before .if1 .left))
+    rw (p .0 .0 .counts, later-hour _ (c .before .before .before .first-hour .ensures) (c .before .before .if1 .left))
     (plain N _ _ (c .ramp .ensures ∙ rw (c .before .by-plant .ensures .0)))
 
 pub ramp-down-spec : {M : Type 1} → statement M

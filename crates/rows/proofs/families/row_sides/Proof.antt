@@ -13,7 +13,7 @@ balance-requires c κs = let m = inside-at _ (c .match .keys1) (c .before .befor
 
 transfer-requires : tie.Need-transfer-requires
 unfolding familyOf
-transfer-requires c κs = let m = inside-at _ (c .match .keys2) (c .before .before .before .before .before .pre .1 .1) in search needs
+transfer-requires c κs = let m = inside-at _ (c .match .keys2) (c .before .before .before .before .before .pre .1 .1) in (search needs, search needs)
 
 spinning-requires : tie.Need-spinning-requires
 unfolding familyOf

@@ -29,7 +29,7 @@ returns c x n =
     let c4 = c .before .before .before .before in
     let p = c4 .before .before .pre in
     limit _ _ (c .at-most .ensures) (c .before .fuel-use-constant .ensures)
-    (c .before .before .burned .ensures ∙ rw (c4 .long .ensures, c .before .before .before .long2 .ensures) (fuel-energy n (p .0 .counts) (p .1 .1 .0) _ _))
+    (c .before .before .burned .ensures ∙ rw (c4 .long .ensures, c .before .before .before .long2 .ensures) (fuel-energy n (p .0 .0 .counts) (p .1 .0) _ _))
 
 pub fuel-use-spec : {M : Type 1} → statement M
 fuel-use-spec =

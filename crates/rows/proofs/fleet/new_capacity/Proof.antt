@@ -30,7 +30,7 @@ unfolding sidesOf constantOf
 returns-2 c =
     let c4 = c .before .before .before .before in
     let f = flag-off 0 (c4 .by-plant .ensures .0) (c .before .before .before .if1 .left) in
-    rw (c4 .before .before .before .pre .0 .counts, f)
+    rw (c4 .before .before .before .pre .0 .0 .counts, f)
     (limit _ _ (c .at-most .ensures) (rw f at (c .before .new-capacity-constant .ensures)) (c .before .before .build-sum .ensures))
 
 pub new-capacity-spec : {M : Type 1} → statement M

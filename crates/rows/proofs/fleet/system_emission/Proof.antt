@@ -21,7 +21,7 @@ returns : tie.Need-returns
 unfolding sidesOf constantOf systemEmission
 returns c x n =
     let p = c .before .before .before .before .pre in
-    limit _ _ (c .at-most .ensures) (c .before .system-emission-constant .ensures) (c .before .before .emitted .ensures ∙ system-energy n (p .0 .counts) (p .1 .1))
+    limit _ _ (c .at-most .ensures) (c .before .system-emission-constant .ensures) (c .before .before .emitted .ensures ∙ system-energy n (p .0 .0 .counts) (p .1))
 
 pub system-emission-spec : {M : Type 1} → statement M
 system-emission-spec =

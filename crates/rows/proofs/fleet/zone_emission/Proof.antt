@@ -25,7 +25,7 @@ unfolding sidesOf constantOf zoneEmission
 returns c x n =
     let p = c .before .before .before .before .before .pre in
     limit _ _ (c .at-most .ensures) (c .before .zone-emission-constant .ensures)
-    (c .before .before .emitted-in .ensures ∙ rw (c .before .before .before .long .ensures) (zone-energy n (p .0 .counts) (p .1 .1 .0) _))
+    (c .before .before .emitted-in .ensures ∙ rw (c .before .before .before .long .ensures) (zone-energy n (p .0 .0 .counts) (p .1 .0) _))
 
 pub zone-emission-spec : {M : Type 1} → statement M
 zone-emission-spec =

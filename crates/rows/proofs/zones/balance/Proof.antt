@@ -1,12 +1,11 @@
 use mathlib.Core.Path.{refl}
 use Prim.Native.Nat.{_*_}
-use native.Mathlib.Omega.{arith}
 use lib.Dec.{eqb}
 use Rattle.sums.specs.Sum.{on}
 use Rattle.model.specs.Data.{read, zone}
 use Rattle.constants.specs.Constants.{constantOf}
 use Rattle.rows.specs.Ready.{sidesOf}
-use Rattle.rows.proofs.Laws.{constant, plus-is, join-is, part-sum, zone-slice}
+use Rattle.rows.proofs.Laws.{constant, plus-is, join-is, part-sum}
 use borrow.Author.Needs.{needs}
 use Rattle.rows.proofs.zones.balance.Statement.{statement}
 use Rattle.rows.proofs.zones.balance.Tie as tie
@@ -30,25 +29,16 @@ add-product-requires : tie.Need-add-product-requires
 add-product-requires c κs = search needs
 
 flows-requires : tie.Need-flows-requires
-flows-requires c κs = search needs
+flows-requires c κs = let p = c .before .before .before .before .before .before .before .before .before .pre in search needs
 
 planned-by-zone-slice-requires-2 : tie.Need-planned-by-zone-slice-requires-2
-planned-by-zone-slice-requires-2 c κs =
-    let p = c .before .before .before .before .before .before .before .before .before .before .pre in
-    let h = p .1 .1 .1 .1 in
-    record {
-      columnsAt = p .1 .1 .0;
-      counted = p .0 .counted;
-      table = omega arith;
-      set = refl;
-      inside = zone-slice (h .0) (h .1 .0) (h .1 .1);
-    }
+planned-by-zone-slice-requires-2 c κs = let p = c .before .before .before .before .before .before .before .before .before .before .pre in search needs
 
 add-product-requires-2 : tie.Need-add-product-requires-2
 add-product-requires-2 c κs = search needs
 
 balance-constant-requires : tie.Need-balance-constant-requires
-balance-constant-requires c κs = let p = c .before .before .before .before .before .before .before .before .before .before .before .before .pre in (p .0, (p .1 .0, p .1 .1 .1 .1))
+balance-constant-requires c κs = let p = c .before .before .before .before .before .before .before .before .before .before .before .before .pre in search needs
 
 with-constant-requires : tie.Need-with-constant-requires
 with-constant-requires c κs = search needs
@@ -61,8 +51,8 @@ returns c =
     let c12 = c8 .before .before .before .before in
     let p = c12 .before .before .pre in
     let D = read (c12 .before .before .args .«data» .now) in
-    let made = part-sum (p .1 .1 .1 .0) (p .1 .1 .1 .1 .1 .1) (λ z g v. on (eqb (zone D g) z) (1000 * v)) (c8 .before .zone-sum .ensures) (c8 .before .before .long .ensures) in
-    rw (p .0 .counts)
+    let made = part-sum (p .0 .1 .1 .1) (p .1 .1 .1) (λ z g v. on (eqb (zone D g) z) (1000 * v)) (c8 .before .zone-sum .ensures) (c8 .before .before .long .ensures) in
+    rw (p .0 .0 .counts)
     (constant _ _ _ (c .with-constant .ensures) (c .before .balance-constant .ensures)
     (plus-is _ (c4 .before .add-product .ensures) (join-is _ _ (c4 .before .before .before .join .ensures) made (c8 .received .ensures)) refl (c4 .before .before .planned-by-zone-slice .ensures .0))
     (plus-is _ (c .before .before .add-product2 .ensures) (c4 .flows .ensures) refl (c .before .before .before .planned-by-zone-slice2 .ensures .0)))

@@ -31,7 +31,7 @@ returns : tie.Need-returns
 unfolding sidesOf constantOf
 returns c =
     let c4 = c .before .before .before .before in
-    let n = c4 .before .before .before .before .before .pre .0 .counts in
+    let n = c4 .before .before .before .before .before .pre .0 .0 .counts in
     rw n
     (constant _ _ _ (c .with-constant .ensures) (rw n at (c .before .firm-constant .ensures))
     (plus-is _ (c .before .before .before .add-product .ensures) (c4 .before .credit-sum .ensures ∙ rw (c4 .before .before .long .ensures)) refl (c4 .planned-by-year-zone .ensures .0)) (c .before .before .zero .ensures))

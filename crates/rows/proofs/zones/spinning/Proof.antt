@@ -32,13 +32,13 @@ long-requires-2 : tie.Need-long-requires-2
 long-requires-2 c κs = search needs
 
 vre-sum-requires : tie.Need-vre-sum-requires
-vre-sum-requires c κs = let p = c .before .before .before .before .before .before .before .before .before .before .before .pre in (p .0, (p .1 .1 .0 .long, p .1 .1 .1 .1 .1 .1))
+vre-sum-requires c κs = let p = c .before .before .before .before .before .before .before .before .before .before .before .pre in search needs
 
 join-requires : tie.Need-join-requires
 join-requires c κs = search needs
 
 spinning-constant-requires : tie.Need-spinning-constant-requires
-spinning-constant-requires c κs = let p = c .before .before .before .before .before .before .before .before .before .before .before .before .before .pre in (p .0, p .1 .1 .1 .1)
+spinning-constant-requires c κs = let p = c .before .before .before .before .before .before .before .before .before .before .before .before .before .pre in search needs
 
 with-constant-requires : tie.Need-with-constant-requires
 with-constant-requires c κs = search needs
@@ -50,12 +50,12 @@ returns c =
     let c8 = c4 .before .before .before .before in
     let c12 = c8 .before .before .before .before in
     let p = c12 .before .before .before .pre in
-    let n = p .0 .counts in
-    let hs = p .1 .1 .1 .1 .1 .1 in
+    let n = p .0 .0 .counts in
+    let hs = p .1 .1 .1 in
     let D = read (c12 .before .before .before .args .«data» .now) in
-    let held = part-sum (p .1 .1 .1 .0) hs (λ z g v. on (eqb (zone D g) z) (1000 * v)) (c8 .before .zone-sum .ensures) (c8 .before .before .long .ensures) in
+    let held = part-sum (p .0 .1 .1 .1) hs (λ z g v. on (eqb (zone D g) z) (1000 * v)) (c8 .before .zone-sum .ensures) (c8 .before .before .long .ensures) in
     let windy =
-    part-sum (p .1 .1 .0) hs (λ z g v. on (eqb (zone D g) z) (on (isVre D g) (err D * v))) (c .before .before .before .vre-sum .ensures ∙ rw (c4 .before .before .single .ensures .0)) (c4 .long2 .ensures) in
+    part-sum (p .0 .1 .1 .0) hs (λ z g v. on (eqb (zone D g) z) (on (isVre D g) (err D * v))) (c .before .before .before .vre-sum .ensures ∙ rw (c4 .before .before .single .ensures .0)) (c4 .long2 .ensures) in
     rw n
     (constant _ _ _ (c .with-constant .ensures) (rw n at (c .before .spinning-constant .ensures))
     (plus-is _ (c4 .before .before .before .add-product .ensures) held refl (c8 .planned-by-zone-slice .ensures .0))

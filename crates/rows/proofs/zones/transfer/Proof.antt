@@ -21,7 +21,7 @@ at-most-requires c κs = search needs
 returns : tie.Need-returns
 unfolding sidesOf constantOf
 returns c =
-    let n = c .before .before .before .before .before .before .pre .0 .counts in
+    let n = c .before .before .before .before .before .before .pre .0 .0 .counts in
     rw n
     (limit _ _ (c .at-most .ensures) (rw n at (c .before .transfer-constant .ensures))
     (product-is (c .before .before .product .ensures) refl (c .before .before .before .planned-by-link-slice .ensures .0)))
