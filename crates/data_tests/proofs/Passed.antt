@@ -43,6 +43,24 @@ in-turn (fault r) g h k = refl
 in-turn fine (fault r) h k = refl
 in-turn fine fine h k = refl
 
+-- a test that refused, and one that did not, in front of the rest
+pub refused-by : (f g : Fault Refusal) {o : Outcome} {r : Refusal} → o ≡ outcome f → o ≡ Fails r → orElse f g ≡ fault r
+unfolding orElse
+refused-by fine g e q = let z : _≡_ {A = ℕ} 0 1 = cc in absurd (omega arith)
+refused-by (fault s) g e q = cc
+
+pub passed-by : (f g : Fault Refusal) → f ≡ fine → orElse f g ≡ g
+unfolding orElse
+passed-by f g e = rw e
+
+pub in-two : (f g h : Fault Refusal) → orElse (orElse f g) h ≡ orElse f (orElse g h)
+unfolding orElse
+in-two fine g h = refl
+in-two (fault r) g h = refl
+
+pub passes : {f : Fault Refusal} {o : Outcome} → o ≡ outcome f → o ≡ Fine → f ≡ fine
+passes {f} e q = outcome-fine f (sym e ∙ q)
+
 module _ (l : List ℕ) where
   pub head-short : length l < 7 → headFault l ≡ fault (DataLength 7)
   unfolding headFault unless

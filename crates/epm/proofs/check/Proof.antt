@@ -1,8 +1,8 @@
 use mathlib.Core.Path.{_∙_}
 use native.Mathlib.Omega.{arith}
 use Rattle.model.specs.Columns.{kindCount}
-use Rattle.data_tests.proofs.Passed.{passed-long, sound-head, passed-tables, counts-sound, counts-read, columns-end, plan-columns}
-use Rattle.epm.proofs.Laws.{answered, data-refused, passes, plan-refused, plan-passed, plan-whole}
+use Rattle.data_tests.proofs.Passed.{passed-long, sound-head, passed-tables, counts-sound, counts-read, columns-end, plan-columns, passes}
+use Rattle.epm.proofs.Laws.{answered, data-refused, plan-refused, plan-passed, plan-whole}
 use borrow.Author.Needs.{needs}
 use Rattle.epm.proofs.check.Statement.{statement}
 use Rattle.epm.proofs.check.Tie as tie

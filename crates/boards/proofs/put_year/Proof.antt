@@ -8,10 +8,10 @@ use borrow.Author.Tests.{not-true, not-false}
 use Rattle.tables.proofs.Laws.{small}
 use Rattle.data_tests.proofs.Passed.{passed-long, sound-head, counts-sound, counts-read, plan-columns}
 use Rattle.parts.proofs.Parts.{part-asked, part-is}
-use Rattle.epm.proofs.Laws.{board-tested, board-room, board-refused, board-written, outputs-are, places-are, years-are, some-places}
+use Rattle.boards.proofs.Laws.{board-tested, board-room, board-refused, board-written, outputs-are, places-are, years-are, some-places}
 use borrow.Author.Needs.{needs}
-use Rattle.epm.proofs.put_year.Statement.{statement}
-use Rattle.epm.proofs.put_year.Tie as tie
+use Rattle.boards.proofs.put_year.Statement.{statement}
+use Rattle.boards.proofs.put_year.Tie as tie
 
 counts-of-requires : tie.Need-counts-of-requires
 counts-of-requires c κs = passed-long _ (sound-head _ (c .before .before .before .pre .0))

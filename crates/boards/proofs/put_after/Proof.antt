@@ -1,7 +1,7 @@
-use Rattle.epm.proofs.Laws.{kept-after, put-by-test}
+use Rattle.boards.proofs.Laws.{kept-after, put-by-test}
 use borrow.Author.Needs.{needs}
-use Rattle.epm.proofs.put_after.Statement.{statement}
-use Rattle.epm.proofs.put_after.Tie as tie
+use Rattle.boards.proofs.put_after.Statement.{statement}
+use Rattle.boards.proofs.put_after.Tie as tie
 
 enum-known-checked : tie.Need-enum-known-checked
 enum-known-checked c = search needs

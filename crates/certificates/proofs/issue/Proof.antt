@@ -2,10 +2,10 @@ use mathlib.Core.Path.{_∙_}
 use Rattle.model.specs.Data.{read}
 use Rattle.data_tests.proofs.Passed.{passed-long, sound-head, sound-entries, passed-tables, counts-sound, counts-read}
 use Rattle.duals.proofs.Shapes.{shaped, shape-counts, rows-from}
-use Rattle.epm.proofs.Laws.{multipliers-refused, multipliers-whole, columns-refused, columns-passed}
+use Rattle.certificates.proofs.Laws.{multipliers-refused, multipliers-whole, columns-refused, columns-passed}
 use borrow.Author.Needs.{needs}
-use Rattle.epm.proofs.issue.Statement.{statement}
-use Rattle.epm.proofs.issue.Tie as tie
+use Rattle.certificates.proofs.issue.Statement.{statement}
+use Rattle.certificates.proofs.issue.Tie as tie
 
 counts-of-requires : tie.Need-counts-of-requires
 counts-of-requires c κs = passed-long _ (sound-head _ (c .before .pre .0))
