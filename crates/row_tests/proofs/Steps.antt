@@ -2,12 +2,12 @@
 use mathlib.Core.Path.{_≡_, refl, sym, ap, _∙_}
 use mathlib.Core.Bool.{false}
 use mathlib.Core.List.{List}
-use Prim.Native.Nat.{ℕ, _+_, _*_, _-_, _≤_, _<_}
+use Prim.Native.Nat.{ℕ, _+_, _*_, _≤_, _<_}
 use native.Mathlib.Omega.{arith}
 use lib.ListN.{length, getD, take, drop}
 use Rattle.sums.specs.declared.Box.{Box}
 use Rattle.sums.specs.Span.{Fault, fine, first}
-use Rattle.sums.specs.Index.{Index, index, box, boxOf, inside, members}
+use Rattle.sums.specs.Index.{Index, box, boxOf, members}
 use Rattle.sums.proofs.Lists.{at-place}
 use Rattle.model.specs.declared.Counts.{Counts}
 use Rattle.model.specs.declared.Family.{Family}

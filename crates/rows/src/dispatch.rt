@@ -115,17 +115,17 @@ pub fn ramp_up(
     ramp(plan, outputs, columns_at, c, rate, y, g, s, s - 1)
 }
 
-// 1000·(gen[more] − gen[less]) ≤ rate·cap, between two slices.
+// 1000·(gen[high] − gen[low]) ≤ rate·cap: how far the output of one slice may lie above that of another.
 fn ramp(
-    plan: &[u32], outputs: &[u32], columns_at: &Starts, c: Counts, rate: u64, y: usize, g: usize, more: usize, less: usize,
+    plan: &[u32], outputs: &[u32], columns_at: &Starts, c: Counts, rate: u64, y: usize, g: usize, high: usize, low: usize,
 ) -> Sides
-    requires { ⌜ (Counted c × (ColumnsAt (now plan) (now «columns_at») c × YearPart (now plan) (now outputs) c 3 y)) × ((y < c .years) × ((g < c .plants) × ((more < slicesOf c) × (less < slicesOf c)))) ⌝ }
-    ensures { λ r. ⌜ r ≡ sides (rate * planEntry c (now (plan .entry)) (capColumn y g) + 1000 * planEntry c (now (plan .entry)) (gen y g less)) (1000 * planEntry c (now (plan .entry)) (gen y g more)) ⌝ }
+    requires { ⌜ (Counted c × (ColumnsAt (now plan) (now «columns_at») c × YearPart (now plan) (now outputs) c 3 y)) × ((y < c .years) × ((g < c .plants) × ((high < slicesOf c) × (low < slicesOf c)))) ⌝ }
+    ensures { λ r. ⌜ r ≡ sides (rate * planEntry c (now (plan .entry)) (capColumn y g) + 1000 * planEntry c (now (plan .entry)) (gen y g low)) (1000 * planEntry c (now (plan .entry)) (gen y g high)) ⌝ }
 {
     let allowed = rate_of_capacity(plan, columns_at, c, rate, y, g);
     Sides {
-        above: capped::join(allowed, in_thousandths(outputs, c, g, less)),
-        below: in_thousandths(outputs, c, g, more),
+        above: capped::join(allowed, in_thousandths(outputs, c, g, low)),
+        below: in_thousandths(outputs, c, g, high),
     }
 }
 
