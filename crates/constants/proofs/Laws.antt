@@ -10,14 +10,14 @@ use lib.ListN.{getD}
 use borrow.Author.Tests.{eq-eqb, ne-eqb}
 use Rattle.sums.specs.Sum.{on}
 use Rattle.sums.specs.Span.{fine}
-use Rattle.sums.specs.Index.{index}
+use Rattle.sums.specs.Index.{index, Member}
 use Rattle.sums.proofs.Lists.{Alls, at-place, _and_}
 use Rattle.model.specs.declared.Counts.{Counts}
 use Rattle.model.specs.Data.{Data, read, ee, prm, tableBoxes, afterFirstHour, onMinLoadDay, isVre}
-use Rattle.model.specs.Families.{Equation, familyOf, equations, empty, outOfService, loading, offer, rampDown, rampUpward, minimumLoad, available, profiled, life, fixed, familyCount}
+use Rattle.model.specs.Families.{Equation, equations, rowBoxes, empty, outOfService, loading, offer, rampDown, rampUpward, minimumLoad, available, profiled, life, fixed, familyCount}
 use Rattle.model.specs.Tests.{entriesFault}
 use Rattle.model.proofs.Sound.{entry-range}
-use Rattle.tables.specs.Layout.{TablesAt, Inside}
+use Rattle.tables.specs.Layout.{TablesAt}
 use Rattle.constants.specs.declared.Constant.{Constant}
 use Rattle.constants.specs.Constants.{constantOf, noConstant, hasConstant}
 
@@ -88,6 +88,6 @@ module _ {l tables-at : List ℕ} {c : Counts} {z : ℕ} (n : TablesAt l tables-
 
 -- The dispatcher: what an arm knows of the four indices, by its key
 
-pub inside-at : {c : Counts} {k y i j s : ℕ} (K : ℕ) → k ≡ K → Inside c (familyOf k .set) y i j s → Inside c (familyOf K .set) y i j s
-inside-at K e m = rw e at m
+pub member-at : (c : Counts) {k y i j s : ℕ} (K : ℕ) → k ≡ K → Member (rowBoxes c) (index k y i j s) → Member (rowBoxes c) (index K y i j s)
+member-at c K e m = rw e at m
 

@@ -1,76 +1,76 @@
 use mathlib.Core.Path.{refl}
 use native.Mathlib.Omega.{arith}
 use Prim.Native.Nat.{_-_}
-use Rattle.model.specs.Families.{familyOf, familyCount}
+use Rattle.model.specs.Families.{rowBoxes, familyCount}
 use Rattle.constants.specs.Constants.{constantOf, hasConstant}
 use Rattle.tables.proofs.Laws.{last-arm}
-use Rattle.constants.proofs.Laws.{without, inside-at}
+use Rattle.constants.proofs.Laws.{without, member-at}
 use borrow.Author.Needs.{needs}
 use Rattle.constants.proofs.families.constant_at.Statement.{statement}
 use Rattle.constants.proofs.families.constant_at.Tie as tie
 
 balance-constant-requires : tie.Need-balance-constant-requires
-unfolding familyOf
+unfolding rowBoxes
 balance-constant-requires c κs = 
     let p = c .before .before .pre in
-    let m = inside-at 0 (c .match .keys1) (p .1 .1 .1) in (p .0, (p .1 .0, (m .year, (m .first, m .slice))))
+    let m = member-at _ 0 (c .match .keys1) (p .1 .1) in (p .0, (p .1 .0, (m .1, (m .2, m .4))))
 
 transfer-constant-requires : tie.Need-transfer-constant-requires
-unfolding familyOf
+unfolding rowBoxes
 transfer-constant-requires c κs = 
     let p = c .before .before .pre in
-    let m = inside-at 1 (c .match .keys2) (p .1 .1 .1) in (p .0, (m .year, (m .first, (m .second, m .slice))))
+    let m = member-at _ 1 (c .match .keys2) (p .1 .1) in (p .0, (m .1, (m .2, (m .3, m .4))))
 
 spinning-constant-requires : tie.Need-spinning-constant-requires
-unfolding familyOf
+unfolding rowBoxes
 spinning-constant-requires c κs = 
     let p = c .before .before .pre in
-    let m = inside-at 2 (c .match .keys3) (p .1 .1 .1) in (p .0, (m .year, (m .first, m .slice)))
+    let m = member-at _ 2 (c .match .keys3) (p .1 .1) in (p .0, (m .1, (m .2, m .4)))
 
 firm-constant-requires : tie.Need-firm-constant-requires
-unfolding familyOf
+unfolding rowBoxes
 firm-constant-requires c κs = 
     let p = c .before .before .pre in
-    let m = inside-at 3 (c .match .keys4) (p .1 .1 .1) in (p .0, (p .1 .0, (m .year, m .first)))
+    let m = member-at _ 3 (c .match .keys4) (p .1 .1) in (p .0, (p .1 .0, (m .1, m .2)))
 
 stock-constant-requires : tie.Need-stock-constant-requires
-unfolding familyOf
+unfolding rowBoxes
 stock-constant-requires c κs = 
     let p = c .before .before .pre in
-    let m = inside-at 11 (c .match .keys12) (p .1 .1 .1) in (p .0, (m .year, m .first))
+    let m = member-at _ 11 (c .match .keys12) (p .1 .1) in (p .0, (m .1, m .2))
 
 new-capacity-constant-requires : tie.Need-new-capacity-constant-requires
-unfolding familyOf
+unfolding rowBoxes
 new-capacity-constant-requires c κs = 
     let p = c .before .before .pre in
-    let m = inside-at 14 (c .match .keys15) (p .1 .1 .1) in (p .0, m .first)
+    let m = member-at _ 14 (c .match .keys15) (p .1 .1) in (p .0, m .2)
 
 yearly-build-constant-requires : tie.Need-yearly-build-constant-requires
-unfolding familyOf
+unfolding rowBoxes
 yearly-build-constant-requires c κs = 
     let p = c .before .before .pre in
-    let m = inside-at 15 (c .match .keys16) (p .1 .1 .1) in (p .0, (m .year, m .first))
+    let m = member-at _ 15 (c .match .keys16) (p .1 .1) in (p .0, (m .1, m .2))
 
 fuel-use-constant-requires : tie.Need-fuel-use-constant-requires
-unfolding familyOf
+unfolding rowBoxes
 fuel-use-constant-requires c κs = 
     let p = c .before .before .pre in
-    let m = inside-at 16 (c .match .keys17) (p .1 .1 .1) in (p .0, (m .year, m .second))
+    let m = member-at _ 16 (c .match .keys17) (p .1 .1) in (p .0, (m .1, m .3))
 
 capital-constant-requires : tie.Need-capital-constant-requires
 capital-constant-requires c κs = search needs
 
 zone-emission-constant-requires : tie.Need-zone-emission-constant-requires
-unfolding familyOf
+unfolding rowBoxes
 zone-emission-constant-requires c κs = 
     let p = c .before .before .pre in
-    let m = inside-at 18 (c .match .keys19) (p .1 .1 .1) in (p .0, (m .year, m .first))
+    let m = member-at _ 18 (c .match .keys19) (p .1 .1) in (p .0, (m .1, m .2))
 
 system-emission-constant-requires : tie.Need-system-emission-constant-requires
-unfolding familyOf
+unfolding rowBoxes
 system-emission-constant-requires c κs = 
     let p = c .before .before .pre in
-    let m = inside-at _ (last-arm (familyCount - 1) (p .1 .1 .0) (c .match .rest)) (p .1 .1 .1) in (p .0, m .year)
+    let m = member-at _ _ (last-arm (familyCount - 1) (p .1 .1 .0) (c .match .rest)) (p .1 .1) in (p .0, m .1)
 
 returns : tie.Need-returns
 unfolding constantOf
@@ -149,7 +149,7 @@ unfolding constantOf
 returns-19 c = rw (c .before .match .keys19) (c .zone-emission-constant .ensures)
 
 returns-20 : tie.Need-returns-20
-unfolding constantOf
+unfolding constantOf rowBoxes
 returns-20 c = rw (last-arm (familyCount - 1) (c .before .before .before .pre .1 .1 .0) (c .before .match .rest)) (c .system-emission-constant .ensures)
 
 pub constant-at-spec : {M : Type 1} → statement M
