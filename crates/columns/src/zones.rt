@@ -1,7 +1,6 @@
 // The columns of links and zones: trans, unmet, surplus, spinshort and firmshort.
 use crate::Pair;
 use crate::families::BALANCE;
-use crate::families::FIRM;
 use crate::families::SPINNING;
 use crate::families::TRANSFER;
 use crate::pairs::add_row;
@@ -12,17 +11,16 @@ use crate::pairs::take_row_if;
 use crate::readers::delivered;
 use duals::RowStarts;
 use model::Counts;
+use sums::Place;
 use tables::starts::Starts;
 ghost use mathlib.Core.Path.{_≡_};
 ghost use Prim.Native.Nat.{_<_};
+ghost use Rattle.sums.specs.Index.{indexOf};
 ghost use Rattle.sums.specs.Linear.{nothing, _·_};
 ghost use Rattle.model.specs.Counts.{slicesOf};
 ghost use Rattle.model.specs.Data.{read};
-ghost use Rattle.model.specs.Families.{row};
 ghost use Rattle.model.specs.Standing.{transIn⁺, transIn⁻};
-ghost use Rattle.tables.specs.Layout.{Counted};
-ghost use Rattle.duals.specs.Multipliers.{RowsAt};
-ghost use Rattle.columns.specs.Pairs.{pairOf, Ready};
+ghost use Rattle.columns.specs.Pairs.{pairOf, Row, Ready};
 
 // From z to w: families 1 (z sends, w receives less the loss), 2 and 3.
 pub fn trans_column(data: &[u32], ms: &[i64], tables_at: &Starts, rows_at: &RowStarts, c: Counts, y: usize, z: usize, w: usize, s: usize) -> Pair
@@ -30,40 +28,26 @@ pub fn trans_column(data: &[u32], ms: &[i64], tables_at: &Starts, rows_at: &RowS
     ensures { λ r. ⌜ r ≡ pairOf c (now (ms .entry)) (transIn⁺ (read (now («data» .entry))) y z w s) (transIn⁻ (read (now («data» .entry))) y z w s) ⌝ }
 {
     let kept = delivered(data, tables_at, c, y, z, w);
-    let p = add_row_if(z != w, none(), kept, ms, rows_at, c, BALANCE, y, w, 0, s);
-    let q = take_row_if(z != w, p, 1000, ms, rows_at, c, BALANCE, y, z, 0, s);
-    let r = take_row(q, 1, ms, rows_at, c, TRANSFER, y, z, w, s);
-    take_row_if(z != w, r, 1000, ms, rows_at, c, SPINNING, y, w, 0, s)
+    let sender = Place { kind: BALANCE, year: y, first: z, second: 0, slice: s };
+    let receiver = Place { first: w, ..sender };
+    let p = add_row_if(z != w, none(), kept, ms, rows_at, c, receiver);
+    let q = take_row_if(z != w, p, 1000, ms, rows_at, c, sender);
+    let r = take_row(q, 1, ms, rows_at, c, Place { kind: TRANSFER, second: w, ..sender });
+    take_row_if(z != w, r, 1000, ms, rows_at, c, Place { kind: SPINNING, ..receiver })
 }
 
-// Family 1.
-pub fn unmet_column(ms: &[i64], rows_at: &RowStarts, c: Counts, y: usize, z: usize, s: usize) -> Pair
-    requires { ⌜ Counted c × (RowsAt (now ms) (now «rows_at») c × ((y < c .years) × ((z < c .zones) × (s < slicesOf c)))) ⌝ }
-    ensures { λ r. ⌜ r ≡ pairOf c (now (ms .entry)) (1 · row 1 y z 0 s) nothing ⌝ }
+// Unmet, spinshort and firmshort: what the row of a balance (family 1), of the spinning reserve (3) or of firm capacity (4) is short of.
+pub fn shortfall_column(ms: &[i64], rows_at: &RowStarts, c: Counts, row: Place) -> Pair
+    requires { ⌜ Row (now ms) (now «rows_at») c row ⌝ }
+    ensures { λ r. ⌜ r ≡ pairOf c (now (ms .entry)) (1 · indexOf row) nothing ⌝ }
 {
-    add_row(none(), 1, ms, rows_at, c, BALANCE, y, z, 0, s)
+    add_row(none(), 1, ms, rows_at, c, row)
 }
 
-// Family 1.
-pub fn surplus_column(ms: &[i64], rows_at: &RowStarts, c: Counts, y: usize, z: usize, s: usize) -> Pair
-    requires { ⌜ Counted c × (RowsAt (now ms) (now «rows_at») c × ((y < c .years) × ((z < c .zones) × (s < slicesOf c)))) ⌝ }
-    ensures { λ r. ⌜ r ≡ pairOf c (now (ms .entry)) nothing (1 · row 1 y z 0 s) ⌝ }
+// What the row of a balance, family 1, has too much.
+pub fn surplus_column(ms: &[i64], rows_at: &RowStarts, c: Counts, row: Place) -> Pair
+    requires { ⌜ Row (now ms) (now «rows_at») c row ⌝ }
+    ensures { λ r. ⌜ r ≡ pairOf c (now (ms .entry)) nothing (1 · indexOf row) ⌝ }
 {
-    take_row(none(), 1, ms, rows_at, c, BALANCE, y, z, 0, s)
-}
-
-// Family 3.
-pub fn spinshort_column(ms: &[i64], rows_at: &RowStarts, c: Counts, y: usize, z: usize, s: usize) -> Pair
-    requires { ⌜ Counted c × (RowsAt (now ms) (now «rows_at») c × ((y < c .years) × ((z < c .zones) × (s < slicesOf c)))) ⌝ }
-    ensures { λ r. ⌜ r ≡ pairOf c (now (ms .entry)) (1 · row 3 y z 0 s) nothing ⌝ }
-{
-    add_row(none(), 1, ms, rows_at, c, SPINNING, y, z, 0, s)
-}
-
-// Family 4.
-pub fn firmshort_column(ms: &[i64], rows_at: &RowStarts, c: Counts, y: usize, z: usize) -> Pair
-    requires { ⌜ Counted c × (RowsAt (now ms) (now «rows_at») c × ((y < c .years) × (z < c .zones))) ⌝ }
-    ensures { λ r. ⌜ r ≡ pairOf c (now (ms .entry)) (1 · row 4 y z 0 0) nothing ⌝ }
-{
-    add_row(none(), 1, ms, rows_at, c, FIRM, y, z, 0, 0)
+    take_row(none(), 1, ms, rows_at, c, row)
 }

@@ -43,7 +43,7 @@ abbrev μ-loop2 : tie.MeasureT-loop2
 
 abbrev Inv-loop : tie.InvT-loop
 Inv-loop «data» ms tables-at rows-at c t₀ k₀ t k =
-    Adding (λ k. ofFamily (term⁺ (read «data») ms) (boxOf (rowBoxes c) k) k) (λ k. ofFamily (term⁻ (read «data») ms) (boxOf (rowBoxes c) k) k) 20 t₀ k t
+    Adding (λ k. ofFamily (term⁺ (read «data») ms) (boxOf (rowBoxes c) k) k) (λ k. ofFamily (term⁻ (read «data») ms) (boxOf (rowBoxes c) k) k) familyCount t₀ k t
 
 abbrev μ-loop : tie.MeasureT-loop
 μ-loop «data» ms tables-at rows-at c t₀ k₀ t k =
