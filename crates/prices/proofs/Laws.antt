@@ -13,7 +13,8 @@ use Rattle.capped.specs.declared.Sum.{Sum}
 use Rattle.capped.specs.Cap.{cap, plus, both, times, timesBoth}
 use Rattle.capped.proofs.Laws.{plus-cap, both-cap, times-cap, times-both}
 use Rattle.sums.specs.Sum.{sum, on}
-use Rattle.sums.specs.Index.{Index, index, box, boxOf, inside}
+use Rattle.sums.specs.declared.Place.{Place}
+use Rattle.sums.specs.Index.{Index, index, indexOf, box, boxOf, inside}
 use Rattle.sums.proofs.ByKind.{_▹_}
 use Rattle.sums.proofs.Sums.{sum-cong, sum-add, sum-scale, sum-single, sum-const-zero}
 use Rattle.model.specs.declared.Counts.{Counts}
@@ -164,6 +165,12 @@ module _ (D : Data) (y i j s : ℕ) where
       ▹ in-order _
       ▹ in-order _
       ▹ mul-one _
+
+-- so is what the code makes of the two
+pub column-price : (D : Data) (p : Place) {unit whole : Sum} {hours : ℕ} → p .kind < kindCount → unit ≡ cap (unitPrice D (p .kind) (p .year) (p .first))
+    → hours ≡ hoursOf D (p .kind) (p .slice) → whole ≡ times unit hours → whole ≡ cap (price D (indexOf p))
+column-price D p l e h q =
+    q ∙ rw (e, h) (times-cap (unitPrice D (p .kind) (p .year) (p .first)) (hoursOf D (p .kind) (p .slice)) ∙ ap cap (price-factors D (p .year) (p .first) (p .second) (p .slice) (p .kind) l))
 
 -- The part of the plan that holds the slices of plant or zone i in year y
 module _ {plan columns-at : List ℕ} {c : Counts} {t y i : ℕ} (m : Hours plan columns-at c t y i) where
