@@ -26,7 +26,7 @@ ghost use Rattle.model.specs.Tests.{entriesFault};
 ghost use Rattle.tables.specs.Layout.{TablesAt};
 ghost use Rattle.constants.specs.Constants.{constantOf, hasConstant};
 
-// The constant of row p. Families 5 to 11, 13 and 14 have none.
+// The constant of row p. Its family is told by its number counted from 0.
 pub fn constant_at(data: &[u32], tables_at: &Starts, c: Counts, p: Place) -> Constant
     requires { ⌜ TablesAt (now «data») (now «tables_at») c × ((entriesFault (read (now «data»)) ≡ fine) × Member (rowBoxes c) (indexOf p)) ⌝ }
     ensures { λ r. ⌜ r ≡ constantOf (read (now («data» .entry))) (indexOf p) ⌝ }
@@ -37,22 +37,15 @@ pub fn constant_at(data: &[u32], tables_at: &Starts, c: Counts, p: Place) -> Con
         1 => transfer_constant(data, tables_at, c, p.year, p.first, p.second, p.slice),
         2 => spinning_constant(data, tables_at, c, p.year, p.first, p.slice),
         3 => firm_constant(data, tables_at, c, p.year, p.first),
-        4 => NONE,
-        5 => NONE,
-        6 => NONE,
-        7 => NONE,
-        8 => NONE,
-        9 => NONE,
-        10 => NONE,
         11 => stock_constant(data, tables_at, c, p.year, p.first),
-        12 => NONE,
-        13 => NONE,
         14 => new_capacity_constant(data, tables_at, c, p.first),
         15 => yearly_build_constant(data, tables_at, c, p.year, p.first),
         16 => fuel_use_constant(data, tables_at, c, p.year, p.second),
         17 => capital_constant(data, tables_at, c),
         18 => zone_emission_constant(data, tables_at, c, p.year, p.first),
-        _ => system_emission_constant(data, tables_at, c, p.year),
+        19 => system_emission_constant(data, tables_at, c, p.year),
+        // 5 to 11, 13 and 14
+        _ => NONE,
     }
 }
 
