@@ -12,11 +12,12 @@ use Rattle.model.specs.Columns.{columnSets, columnBoxes, kindCount}
 use Rattle.model.specs.Data.{read}
 use Rattle.model.specs.Families.{familyCount}
 use Rattle.model.specs.Standing.{standing⁺, standing⁻}
-use Rattle.tables.specs.Layout.{Inside}
+use Rattle.tables.specs.Layout.{Counted, Inside}
 use Rattle.tables.proofs.Laws.{box-at}
+use Rattle.duals.specs.Multipliers.{RowsAt}
 use Rattle.columns.specs.declared.Pair.{Pair}
 use Rattle.columns.specs.Pairs.{pairOf, pricedPair, familySets, Row, Ready}
-use Rattle.columns.proofs.Laws.{column-priced}
+use Rattle.columns.proofs.Laws.{row-at, column-priced}
 use Rattle.columns.proofs.Sound.{sound-placed}
 
 -- a column's kind and its four indices
@@ -47,9 +48,12 @@ module _ {l tables-at : List ℕ} {ms : List ℤ} {rows-at : List ℕ} {c : Coun
   pub by-second : Ready l tables-at ms rows-at c × ((y < own .years) × ((i < own .firsts) × ((j < own .seconds) × (s < own .slices))))
   by-second = (p .0, (own-indices .year, (own-indices .first, (own-indices .second, own-indices .slice))))
 
-  -- the row of family F, counted from 0, that has the column's own indices
-  pub own-row : (F : ℕ) → F < familyCount → getD familySets F 0 ≡ getD columnSets K 0 → Row ms rows-at c (record { kind = F; year = y; «first» = i; second = j; slice = s })
-  own-row F l q = record { counted = p .0 .tablesAt .counted; rowsAt = p .0 .rowsAt; family = l; inside = rw q own-indices }
+  -- the columns of a zone, which read no data
+  pub zone-by-slice : Counted c × (RowsAt ms rows-at c × ((y < own .years) × ((i < own .firsts) × (s < own .slices))))
+  zone-by-slice = (p .0 .tablesAt .counted, (p .0 .rowsAt, by-slice .1))
+
+  pub zone-row : (F : ℕ) → F < familyCount → getD familySets F 0 ≡ getD columnSets K 0 → 0 < own .seconds → Row ms rows-at c F y i 0 s
+  zone-row F l q h = row-at (p .0 .tablesAt .counted) (p .0 .rowsAt) l (rw q (own-indices .year)) (rw q (own-indices .first)) (rw q h) (rw q (own-indices .slice))
 
   pub column-is : {r : Pair} → r ≡ pairOf c ms (standing⁺ (read l) (index K y i j s)) (standing⁻ (read l) (index K y i j s)) → r ≡ pricedPair (read l) ms (index k y i j s)
   column-is {r} q =

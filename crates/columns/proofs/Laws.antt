@@ -11,8 +11,7 @@ use lib.ListN.{getD}
 use Rattle.capped.specs.Cap.{cap}
 use Rattle.capped.proofs.Laws.{plus-cap, both-cap}
 use Rattle.sums.specs.Sum.{sum}
-use Rattle.sums.specs.declared.Place.{Place}
-use Rattle.sums.specs.Index.{Index, indexOf, boxOf, Member}
+use Rattle.sums.specs.Index.{Index, index, boxOf, Member}
 use Rattle.sums.specs.Linear.{Linear, nothing, _·_, ∑, _⊕_, when, value, coefficient}
 use Rattle.sums.proofs.Sums.{sum-one-more}
 use Rattle.sums.proofs.Spans.{total-add}
@@ -37,17 +36,17 @@ family-set : (k : ℕ) → k < familyCount → getD familySets k 0 ≡ familyOf 
 unfolding familyOf
 family-set k h = getD-map-in (λ (f : Family). f .set) families (family 0 0 false) 0 k h
 
-pub readable : {ms : List ℤ} {rows-at : List ℕ} {c : Counts} {p : Place} → Row ms rows-at c p
-    → Counted c × (RowsAt ms rows-at c × Member (rowBoxes c) (indexOf p))
+pub readable : {ms : List ℤ} {rows-at : List ℕ} {c : Counts} {k y i j s : ℕ} → Row ms rows-at c k y i j s
+    → Counted c × (RowsAt ms rows-at c × Member (rowBoxes c) (index k y i j s))
 unfolding rowBoxes
-readable {c} {p} r =
+readable {c} {k} r =
     let e = family-box c (r .family) in
-    let set = family-set (p .kind) (r .family) in
+    let set = family-set k (r .family) in
     (r .counted, (r .rowsAt, (r .family, rw (e, ← set) (r .inside .year), rw (e, ← set) (r .inside .first), rw (e, ← set) (r .inside .second), rw (e, ← set) (r .inside .slice))))
 
-pub row-at : {ms : List ℤ} {rows-at : List ℕ} {c : Counts} {p : Place} → Counted c → RowsAt ms rows-at c → p .kind < familyCount
-    → p .year < boxOf (sets c) (getD familySets (p .kind) 0) .years → p .first < boxOf (sets c) (getD familySets (p .kind) 0) .firsts
-    → p .second < boxOf (sets c) (getD familySets (p .kind) 0) .seconds → p .slice < boxOf (sets c) (getD familySets (p .kind) 0) .slices → Row ms rows-at c p
+pub row-at : {ms : List ℤ} {rows-at : List ℕ} {c : Counts} {k y i j s : ℕ} → Counted c → RowsAt ms rows-at c → k < familyCount
+    → y < boxOf (sets c) (getD familySets k 0) .years → i < boxOf (sets c) (getD familySets k 0) .firsts
+    → j < boxOf (sets c) (getD familySets k 0) .seconds → s < boxOf (sets c) (getD familySets k 0) .slices → Row ms rows-at c k y i j s
 row-at n d h hy hi hj hs = record { counted = n; rowsAt = d; family = h; inside = record { year = hy; «first» = hi; second = hj; slice = hs } }
 
 pair-is : {u v d e : ℕ} → u ≡ v → d ≡ e → _≡_ {A = Pair} (record { up = cap u; down = cap d }) (record { up = cap v; down = cap e })

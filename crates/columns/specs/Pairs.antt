@@ -6,7 +6,6 @@ use Prim.Native.Nat.{ℕ, _+_, _*_, _<_}
 use lib.IntN.{ℤ, pos}
 use lib.ListN.{length, getD}
 use Rattle.capped.specs.Cap.{cap, plus, both}
-use Rattle.sums.specs.declared.Place.{Place}
 use Rattle.sums.specs.Span.{fine}
 use Rattle.sums.specs.Index.{Index, number}
 use Rattle.sums.specs.Linear.{Linear, value}
@@ -64,12 +63,12 @@ pricedPair D ms c = record { up = cap (priced⁺ D ms c); down = cap (priced⁻ 
 abbrev pub familySets : List ℕ
 familySets = map (λ (f : Family). f .set) families
 
--- the multiplier of row p can be read
-pub record Row (ms : List ℤ) (rows-at : List ℕ) (c : Counts) (p : Place) : Type 0 where
+-- the multiplier of row y, i, j, s of family k can be read
+pub record Row (ms : List ℤ) (rows-at : List ℕ) (c : Counts) (k y i j s : ℕ) : Type 0 where
   pub counted : Counted c
   pub rowsAt : RowsAt ms rows-at c
-  pub family : p .kind < length familySets
-  pub inside : Inside c (getD familySets (p .kind) 0) (p .year) (p .first) (p .second) (p .slice)
+  pub family : k < length familySets
+  pub inside : Inside c (getD familySets k 0) y i j s
 
 -- data that passed its tests, and a multiplier for every row
 pub record Ready (l tables-at : List ℕ) (ms : List ℤ) (rows-at : List ℕ) (c : Counts) : Type 0 where

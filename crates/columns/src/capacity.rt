@@ -30,7 +30,6 @@ use crate::readers::zone_of;
 use duals::RowStarts;
 use model::Counts;
 use parts::slices::both;
-use sums::Place;
 use tables::entries::by_plant;
 use tables::entries::by_plant_slice;
 use tables::names::CAP_CREDIT;
@@ -84,13 +83,12 @@ fn cap_in_slice(data: &[u32], ms: &[i64], tables_at: &Starts, rows_at: &RowStart
     let ramps = after_first_hour(c, s);
     let profile = by_plant_slice(data, tables_at, c, PROFILE, g, s);
     let least = on_min_load_day(data, tables_at, c, s);
-    let loading = Place { kind: LOADING, year: y, first: g, second: 0, slice: s };
-    let p = add_row(none(), rates.load, ms, rows_at, c, loading);
-    let q = add_row(p, rates.offer, ms, rows_at, c, Place { kind: OFFER, ..loading });
-    let r = add_row_if(ramps, q, rates.down, ms, rows_at, c, Place { kind: RAMP_DOWN, ..loading });
-    let t = add_row_if(ramps, r, rates.up, ms, rows_at, c, Place { kind: RAMP_UPWARD, ..loading });
-    let u = add_row_if(rates.vre, t, profile, ms, rows_at, c, Place { kind: PROFILED, ..loading });
-    take_row_if(least, u, rates.least, ms, rows_at, c, Place { kind: MINIMUM_LOAD, ..loading })
+    let p = add_row(none(), rates.load, ms, rows_at, c, LOADING, y, g, 0, s);
+    let q = add_row(p, rates.offer, ms, rows_at, c, OFFER, y, g, 0, s);
+    let r = add_row_if(ramps, q, rates.down, ms, rows_at, c, RAMP_DOWN, y, g, 0, s);
+    let t = add_row_if(ramps, r, rates.up, ms, rows_at, c, RAMP_UPWARD, y, g, 0, s);
+    let u = add_row_if(rates.vre, t, profile, ms, rows_at, c, PROFILED, y, g, 0, s);
+    take_row_if(least, u, rates.least, ms, rows_at, c, MINIMUM_LOAD, y, g, 0, s)
 }
 
 fn cap_in_slices(data: &[u32], ms: &[i64], tables_at: &Starts, rows_at: &RowStarts, c: Counts, y: usize, g: usize) -> Pair
@@ -112,7 +110,7 @@ fn cap_in_season(data: &[u32], ms: &[i64], tables_at: &Starts, rows_at: &RowStar
     ensures { λ r. ⌜ r ≡ pairOf c (now (ms .entry)) (capInSeason⁺ (read (now («data» .entry))) y g q) nothing ⌝ }
 {
     let hours = available_hours(data, tables_at, c, g, q);
-    add_row(none(), hours, ms, rows_at, c, Place { kind: AVAILABLE, year: y, first: g, second: 0, slice: q })
+    add_row(none(), hours, ms, rows_at, c, AVAILABLE, y, g, 0, q)
 }
 
 fn cap_in_seasons(data: &[u32], ms: &[i64], tables_at: &Starts, rows_at: &RowStarts, c: Counts, y: usize, g: usize) -> Pair
@@ -135,13 +133,11 @@ fn cap_in_year(data: &[u32], ms: &[i64], tables_at: &Starts, rows_at: &RowStarts
     let credit = by_plant(data, tables_at, c, CAP_CREDIT, g);
     let next = y + 1;
     let annuity = weighted_annuity(data, tables_at, c, y, g);
-    let stock = Place { kind: STOCK, year: y, first: g, second: 0, slice: 0 };
-    let capital = Place { kind: CAPITAL, year: 0, first: 0, second: 0, slice: 0 };
-    let p = add_row(none(), credit, ms, rows_at, c, Place { kind: FIRM, first: z, ..stock });
-    let q = add_row(p, 1, ms, rows_at, c, stock);
-    let r = take_row_if(next < c.years, q, 1, ms, rows_at, c, Place { year: next, ..stock });
-    let t = take_row_if(out_of_service(data, tables_at, c, y, g), r, 1, ms, rows_at, c, Place { kind: LIFE, ..stock });
-    take_row_if(!is_existing(data, tables_at, c, g), t, annuity, ms, rows_at, c, capital)
+    let p = add_row(none(), credit, ms, rows_at, c, FIRM, y, z, 0, 0);
+    let q = add_row(p, 1, ms, rows_at, c, STOCK, y, g, 0, 0);
+    let r = take_row_if(next < c.years, q, 1, ms, rows_at, c, STOCK, next, g, 0, 0);
+    let t = take_row_if(out_of_service(data, tables_at, c, y, g), r, 1, ms, rows_at, c, LIFE, y, g, 0, 0);
+    take_row_if(!is_existing(data, tables_at, c, g), t, annuity, ms, rows_at, c, CAPITAL, 0, 0, 0, 0)
 }
 
 pub fn cap_column(data: &[u32], ms: &[i64], tables_at: &Starts, rows_at: &RowStarts, c: Counts, y: usize, g: usize) -> Pair
@@ -160,11 +156,10 @@ pub fn build_column(data: &[u32], ms: &[i64], tables_at: &Starts, rows_at: &RowS
     ensures { λ r. ⌜ r ≡ pairOf c (now (ms .entry)) nothing (buildIn⁻ (read (now («data» .entry))) y g) ⌝ }
 {
     let existing = is_existing(data, tables_at, c, g);
-    let stock = Place { kind: STOCK, year: y, first: g, second: 0, slice: 0 };
-    let p = take_row_if(!existing, none(), 1, ms, rows_at, c, stock);
-    let q = take_row_if(existing, p, 1, ms, rows_at, c, Place { kind: FIXED, ..stock });
-    let r = take_row_if(!existing, q, 1, ms, rows_at, c, Place { kind: NEW_CAPACITY, year: 0, ..stock });
-    take_row_if(!existing, r, 1, ms, rows_at, c, Place { kind: YEARLY_BUILD, ..stock })
+    let p = take_row_if(!existing, none(), 1, ms, rows_at, c, STOCK, y, g, 0, 0);
+    let q = take_row_if(existing, p, 1, ms, rows_at, c, FIXED, y, g, 0, 0);
+    let r = take_row_if(!existing, q, 1, ms, rows_at, c, NEW_CAPACITY, 0, g, 0, 0);
+    take_row_if(!existing, r, 1, ms, rows_at, c, YEARLY_BUILD, y, g, 0, 0)
 }
 
 // Families 12 and 14.
@@ -174,7 +169,6 @@ pub fn retire_column(data: &[u32], ms: &[i64], tables_at: &Starts, rows_at: &Row
 {
     let existing = is_existing(data, tables_at, c, g);
     let later = both(existing, 0 < y);
-    let stock = Place { kind: STOCK, year: y, first: g, second: 0, slice: 0 };
-    let p = add_row_if(later, none(), 1, ms, rows_at, c, stock);
-    take_row_if(!later, p, 1, ms, rows_at, c, Place { kind: FIXED, ..stock })
+    let p = add_row_if(later, none(), 1, ms, rows_at, c, STOCK, y, g, 0, 0);
+    take_row_if(!later, p, 1, ms, rows_at, c, FIXED, y, g, 0, 0)
 }

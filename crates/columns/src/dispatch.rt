@@ -27,7 +27,6 @@ use crate::readers::zone_of;
 use duals::RowStarts;
 use model::Counts;
 use parts::slices::season_of;
-use sums::Place;
 use tables::entries::by_slice;
 use tables::entries::single;
 use tables::names::DURATION;
@@ -55,12 +54,11 @@ fn gen_in_zone(data: &[u32], ms: &[i64], tables_at: &Starts, rows_at: &RowStarts
     let err = single(data, tables_at, c, ERR);
     let heat = hourly(data, tables_at, c, HEAT_RATE, g, s);
     let emitted = hourly(data, tables_at, c, EMISSION, g, s);
-    let balance = Place { kind: BALANCE, year: y, first: z, second: 0, slice: s };
-    let p = add_row(none(), 1000, ms, rows_at, c, balance);
-    let q = take_row_if(is_vre(data, tables_at, c, g), p, err, ms, rows_at, c, Place { kind: SPINNING, ..balance });
-    let r = take_row(q, heat, ms, rows_at, c, Place { kind: FUEL_USE, second: f, slice: 0, ..balance });
-    let t = take_row(r, emitted, ms, rows_at, c, Place { kind: ZONE_EMISSION, slice: 0, ..balance });
-    take_row(t, emitted, ms, rows_at, c, Place { kind: SYSTEM_EMISSION, first: 0, slice: 0, ..balance })
+    let p = add_row(none(), 1000, ms, rows_at, c, BALANCE, y, z, 0, s);
+    let q = take_row_if(is_vre(data, tables_at, c, g), p, err, ms, rows_at, c, SPINNING, y, z, 0, s);
+    let r = take_row(q, heat, ms, rows_at, c, FUEL_USE, y, z, f, 0);
+    let t = take_row(r, emitted, ms, rows_at, c, ZONE_EMISSION, y, z, 0, 0);
+    take_row(t, emitted, ms, rows_at, c, SYSTEM_EMISSION, y, 0, 0, 0)
 }
 
 // The rows that limit the plant in its slice and season: families 5, 9, 10 and 11.
@@ -71,11 +69,10 @@ fn gen_in_load(data: &[u32], ms: &[i64], tables_at: &Starts, rows_at: &RowStarts
     let q = season_of(c, s);
     let hours = 1000 * by_slice(data, tables_at, c, DURATION, s);
     let least = on_min_load_day(data, tables_at, c, s);
-    let loading = Place { kind: LOADING, year: y, first: g, second: 0, slice: s };
-    let p = add_row_if(least, none(), 1000, ms, rows_at, c, Place { kind: MINIMUM_LOAD, ..loading });
-    let r = take_row(p, 1000, ms, rows_at, c, loading);
-    let t = take_row(r, hours, ms, rows_at, c, Place { kind: AVAILABLE, slice: q, ..loading });
-    take_row_if(is_vre(data, tables_at, c, g), t, 1000, ms, rows_at, c, Place { kind: PROFILED, ..loading })
+    let p = add_row_if(least, none(), 1000, ms, rows_at, c, MINIMUM_LOAD, y, g, 0, s);
+    let r = take_row(p, 1000, ms, rows_at, c, LOADING, y, g, 0, s);
+    let t = take_row(r, hours, ms, rows_at, c, AVAILABLE, y, g, 0, q);
+    take_row_if(is_vre(data, tables_at, c, g), t, 1000, ms, rows_at, c, PROFILED, y, g, 0, s)
 }
 
 // The ramps of families 7 and 8, from the hour before and into the hour after.
@@ -86,12 +83,10 @@ fn gen_in_ramps(ms: &[i64], rows_at: &RowStarts, c: Counts, y: usize, g: usize, 
     let next = s + 1;
     let before = after_first_hour(c, s);
     let after = after_first_hour(c, next);
-    let down = Place { kind: RAMP_DOWN, year: y, first: g, second: 0, slice: s };
-    let upward = Place { kind: RAMP_UPWARD, ..down };
-    let p = add_row_if(before, none(), 1000, ms, rows_at, c, down);
-    let q = add_row_if(after, p, 1000, ms, rows_at, c, Place { slice: next, ..upward });
-    let r = take_row_if(after, q, 1000, ms, rows_at, c, Place { slice: next, ..down });
-    take_row_if(before, r, 1000, ms, rows_at, c, upward)
+    let p = add_row_if(before, none(), 1000, ms, rows_at, c, RAMP_DOWN, y, g, 0, s);
+    let q = add_row_if(after, p, 1000, ms, rows_at, c, RAMP_UPWARD, y, g, 0, next);
+    let r = take_row_if(after, q, 1000, ms, rows_at, c, RAMP_DOWN, y, g, 0, next);
+    take_row_if(before, r, 1000, ms, rows_at, c, RAMP_UPWARD, y, g, 0, s)
 }
 
 // Families 1, 3, 5, 7 to 11, 17, 19 and 20.
@@ -111,8 +106,7 @@ pub fn reserve_column(data: &[u32], ms: &[i64], tables_at: &Starts, rows_at: &Ro
     ensures { λ r. ⌜ r ≡ pairOf c (now (ms .entry)) (reserveIn⁺ (read (now («data» .entry))) y g s) (reserveIn⁻ (read (now («data» .entry))) y g s) ⌝ }
 {
     let z = zone_of(data, tables_at, c, g);
-    let loading = Place { kind: LOADING, year: y, first: g, second: 0, slice: s };
-    let p = add_row(none(), 1000, ms, rows_at, c, Place { kind: SPINNING, first: z, ..loading });
-    let q = take_row(p, 1000, ms, rows_at, c, loading);
-    take_row(q, 1000, ms, rows_at, c, Place { kind: OFFER, ..loading })
+    let p = add_row(none(), 1000, ms, rows_at, c, SPINNING, y, z, 0, s);
+    let q = take_row(p, 1000, ms, rows_at, c, LOADING, y, g, 0, s);
+    take_row(q, 1000, ms, rows_at, c, OFFER, y, g, 0, s)
 }

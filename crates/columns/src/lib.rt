@@ -48,11 +48,11 @@ pub fn column_sums(data: &[u32], ms: &[i64], tables_at: &Starts, rows_at: &RowSt
         4 => reserve_column(data, ms, tables_at, rows_at, c, p.year, p.first, p.slice),
         5 => trans_column(data, ms, tables_at, rows_at, c, p.year, p.first, p.second, p.slice),
         // unmet
-        6 => shortfall_column(ms, rows_at, c, Place { kind: BALANCE, ..p }),
-        7 => surplus_column(ms, rows_at, c, Place { kind: BALANCE, ..p }),
+        6 => shortfall_column(ms, rows_at, c, BALANCE, p.year, p.first, p.slice),
+        7 => surplus_column(ms, rows_at, c, p.year, p.first, p.slice),
         // spinshort
-        8 => shortfall_column(ms, rows_at, c, Place { kind: SPINNING, ..p }),
+        8 => shortfall_column(ms, rows_at, c, SPINNING, p.year, p.first, p.slice),
         // firmshort
-        _ => shortfall_column(ms, rows_at, c, Place { kind: FIRM, ..p }),
+        _ => shortfall_column(ms, rows_at, c, FIRM, p.year, p.first, p.slice),
     }
 }

@@ -7,7 +7,7 @@ use model::Counts;
 use sums::Place;
 ghost use mathlib.Core.Path.{_≡_};
 ghost use mathlib.Core.Bool.{true};
-ghost use Rattle.sums.specs.Index.{indexOf};
+ghost use Rattle.sums.specs.Index.{index};
 ghost use Rattle.columns.specs.Pairs.{noTerms, joined, added, taken, addedIf, takenIf, rowMultiplier, Row};
 
 pub fn none() -> Pair
@@ -56,39 +56,40 @@ fn take(p: Pair, a: u64, m: Multiplier) -> Pair
     }
 }
 
-// The term of a row in which the column has the coefficient a.
-pub fn add_row(p: Pair, a: u64, ms: &[i64], rows_at: &RowStarts, c: Counts, row: Place) -> Pair
-    requires { ⌜ Row (now ms) (now «rows_at») c row ⌝ }
-    ensures { λ r. ⌜ r ≡ added p a (rowMultiplier c (now (ms .entry)) (indexOf row)) ⌝ }
+// The term of row y, i, j, s of family k, in which the column has the coefficient a. The row is not handed over as a Place: so the compiler sees each
+// family as a constant and inlines (docs/BENCHMARKS.md).
+pub fn add_row(p: Pair, a: u64, ms: &[i64], rows_at: &RowStarts, c: Counts, k: usize, y: usize, i: usize, j: usize, s: usize) -> Pair
+    requires { ⌜ Row (now ms) (now «rows_at») c k y i j s ⌝ }
+    ensures { λ r. ⌜ r ≡ added p a (rowMultiplier c (now (ms .entry)) (index k y i j s)) ⌝ }
 {
-    add(p, a, multiplier_at(ms, rows_at, c, row))
+    add(p, a, multiplier_at(ms, rows_at, c, Place { kind: k, year: y, first: i, second: j, slice: s }))
 }
 
 // The term of a row in which the column has the coefficient −a.
-pub fn take_row(p: Pair, a: u64, ms: &[i64], rows_at: &RowStarts, c: Counts, row: Place) -> Pair
-    requires { ⌜ Row (now ms) (now «rows_at») c row ⌝ }
-    ensures { λ r. ⌜ r ≡ taken p a (rowMultiplier c (now (ms .entry)) (indexOf row)) ⌝ }
+pub fn take_row(p: Pair, a: u64, ms: &[i64], rows_at: &RowStarts, c: Counts, k: usize, y: usize, i: usize, j: usize, s: usize) -> Pair
+    requires { ⌜ Row (now ms) (now «rows_at») c k y i j s ⌝ }
+    ensures { λ r. ⌜ r ≡ taken p a (rowMultiplier c (now (ms .entry)) (index k y i j s)) ⌝ }
 {
-    take(p, a, multiplier_at(ms, rows_at, c, row))
+    take(p, a, multiplier_at(ms, rows_at, c, Place { kind: k, year: y, first: i, second: j, slice: s }))
 }
 
 // The same where a test holds; where it does not, there need not be such a row.
-pub fn add_row_if(on: bool, p: Pair, a: u64, ms: &[i64], rows_at: &RowStarts, c: Counts, row: Place) -> Pair
-    requires { ⌜ (on ≡ true → Row (now ms) (now «rows_at») c row) ⌝ }
-    ensures { λ r. ⌜ r ≡ addedIf on p a (rowMultiplier c (now (ms .entry)) (indexOf row)) ⌝ }
+pub fn add_row_if(on: bool, p: Pair, a: u64, ms: &[i64], rows_at: &RowStarts, c: Counts, k: usize, y: usize, i: usize, j: usize, s: usize) -> Pair
+    requires { ⌜ (on ≡ true → Row (now ms) (now «rows_at») c k y i j s) ⌝ }
+    ensures { λ r. ⌜ r ≡ addedIf on p a (rowMultiplier c (now (ms .entry)) (index k y i j s)) ⌝ }
 {
     if on {
-        return add_row(p, a, ms, rows_at, c, row);
+        return add_row(p, a, ms, rows_at, c, k, y, i, j, s);
     }
     p
 }
 
-pub fn take_row_if(on: bool, p: Pair, a: u64, ms: &[i64], rows_at: &RowStarts, c: Counts, row: Place) -> Pair
-    requires { ⌜ (on ≡ true → Row (now ms) (now «rows_at») c row) ⌝ }
-    ensures { λ r. ⌜ r ≡ takenIf on p a (rowMultiplier c (now (ms .entry)) (indexOf row)) ⌝ }
+pub fn take_row_if(on: bool, p: Pair, a: u64, ms: &[i64], rows_at: &RowStarts, c: Counts, k: usize, y: usize, i: usize, j: usize, s: usize) -> Pair
+    requires { ⌜ (on ≡ true → Row (now ms) (now «rows_at») c k y i j s) ⌝ }
+    ensures { λ r. ⌜ r ≡ takenIf on p a (rowMultiplier c (now (ms .entry)) (index k y i j s)) ⌝ }
 {
     if on {
-        return take_row(p, a, ms, rows_at, c, row);
+        return take_row(p, a, ms, rows_at, c, k, y, i, j, s);
     }
     p
 }

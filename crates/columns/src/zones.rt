@@ -11,15 +11,17 @@ use crate::pairs::take_row_if;
 use crate::readers::delivered;
 use duals::RowStarts;
 use model::Counts;
-use sums::Place;
 use tables::starts::Starts;
 ghost use mathlib.Core.Path.{_≡_};
 ghost use Prim.Native.Nat.{_<_};
-ghost use Rattle.sums.specs.Index.{indexOf};
+ghost use Rattle.sums.specs.Index.{index};
 ghost use Rattle.sums.specs.Linear.{nothing, _·_};
 ghost use Rattle.model.specs.Counts.{slicesOf};
 ghost use Rattle.model.specs.Data.{read};
+ghost use Rattle.model.specs.Families.{row};
 ghost use Rattle.model.specs.Standing.{transIn⁺, transIn⁻};
+ghost use Rattle.tables.specs.Layout.{Counted};
+ghost use Rattle.duals.specs.Multipliers.{RowsAt};
 ghost use Rattle.columns.specs.Pairs.{pairOf, Row, Ready};
 
 // From z to w: families 1 (z sends, w receives less the loss), 2 and 3.
@@ -28,26 +30,24 @@ pub fn trans_column(data: &[u32], ms: &[i64], tables_at: &Starts, rows_at: &RowS
     ensures { λ r. ⌜ r ≡ pairOf c (now (ms .entry)) (transIn⁺ (read (now («data» .entry))) y z w s) (transIn⁻ (read (now («data» .entry))) y z w s) ⌝ }
 {
     let kept = delivered(data, tables_at, c, y, z, w);
-    let sender = Place { kind: BALANCE, year: y, first: z, second: 0, slice: s };
-    let receiver = Place { first: w, ..sender };
-    let p = add_row_if(z != w, none(), kept, ms, rows_at, c, receiver);
-    let q = take_row_if(z != w, p, 1000, ms, rows_at, c, sender);
-    let r = take_row(q, 1, ms, rows_at, c, Place { kind: TRANSFER, second: w, ..sender });
-    take_row_if(z != w, r, 1000, ms, rows_at, c, Place { kind: SPINNING, ..receiver })
+    let p = add_row_if(z != w, none(), kept, ms, rows_at, c, BALANCE, y, w, 0, s);
+    let q = take_row_if(z != w, p, 1000, ms, rows_at, c, BALANCE, y, z, 0, s);
+    let r = take_row(q, 1, ms, rows_at, c, TRANSFER, y, z, w, s);
+    take_row_if(z != w, r, 1000, ms, rows_at, c, SPINNING, y, w, 0, s)
 }
 
-// Unmet, spinshort and firmshort: what the row of a balance (family 1), of the spinning reserve (3) or of firm capacity (4) is short of.
-pub fn shortfall_column(ms: &[i64], rows_at: &RowStarts, c: Counts, row: Place) -> Pair
-    requires { ⌜ Row (now ms) (now «rows_at») c row ⌝ }
-    ensures { λ r. ⌜ r ≡ pairOf c (now (ms .entry)) (1 · indexOf row) nothing ⌝ }
+// Unmet, spinshort and firmshort: what a row of family 1, 3 or 4 (`k` counts from 0) is short of.
+pub fn shortfall_column(ms: &[i64], rows_at: &RowStarts, c: Counts, k: usize, y: usize, z: usize, s: usize) -> Pair
+    requires { ⌜ Row (now ms) (now «rows_at») c k y z 0 s ⌝ }
+    ensures { λ r. ⌜ r ≡ pairOf c (now (ms .entry)) (1 · index k y z 0 s) nothing ⌝ }
 {
-    add_row(none(), 1, ms, rows_at, c, row)
+    add_row(none(), 1, ms, rows_at, c, k, y, z, 0, s)
 }
 
-// What the row of a balance, family 1, has too much.
-pub fn surplus_column(ms: &[i64], rows_at: &RowStarts, c: Counts, row: Place) -> Pair
-    requires { ⌜ Row (now ms) (now «rows_at») c row ⌝ }
-    ensures { λ r. ⌜ r ≡ pairOf c (now (ms .entry)) nothing (1 · indexOf row) ⌝ }
+// Family 1.
+pub fn surplus_column(ms: &[i64], rows_at: &RowStarts, c: Counts, y: usize, z: usize, s: usize) -> Pair
+    requires { ⌜ Counted c × (RowsAt (now ms) (now «rows_at») c × ((y < c .years) × ((z < c .zones) × (s < slicesOf c)))) ⌝ }
+    ensures { λ r. ⌜ r ≡ pairOf c (now (ms .entry)) nothing (1 · row 1 y z 0 s) ⌝ }
 {
-    take_row(none(), 1, ms, rows_at, c, row)
+    take_row(none(), 1, ms, rows_at, c, BALANCE, y, z, 0, s)
 }

@@ -5,7 +5,7 @@ use Rattle.sums.proofs.ByKind.{only-zero}
 use Rattle.model.specs.Standing.{standing⁺, standing⁻}
 use Rattle.model.specs.Columns.{kindCount}
 use Rattle.tables.proofs.Laws.{last-arm}
-use Rattle.columns.proofs.Arms.{column-inside, own-indices, by-first, by-slice, by-second, own-row, column-is}
+use Rattle.columns.proofs.Arms.{column-inside, own-indices, by-first, by-slice, by-second, zone-by-slice, zone-row, column-is}
 use Rattle.columns.proofs.column_sums.Statement.{statement}
 use Rattle.columns.proofs.column_sums.Tie as tie
 
@@ -28,17 +28,17 @@ trans-column-requires : tie.Need-trans-column-requires
 trans-column-requires c κs = by-second 5 (c .match .keys6) (c .before .before .pre)
 
 shortfall-column-requires : tie.Need-shortfall-column-requires
-shortfall-column-requires c κs = own-row 6 (c .match .keys7) (c .before .before .pre) 0 (omega arith) refl
+shortfall-column-requires c κs = zone-row 6 (c .match .keys7) (c .before .before .pre) 0 (omega arith) refl (omega arith)
 
 surplus-column-requires : tie.Need-surplus-column-requires
-surplus-column-requires c κs = own-row 7 (c .match .keys8) (c .before .before .pre) 0 (omega arith) refl
+surplus-column-requires c κs = zone-by-slice 7 (c .match .keys8) (c .before .before .pre)
 
 shortfall-column-requires-2 : tie.Need-shortfall-column-requires-2
-shortfall-column-requires-2 c κs = own-row 8 (c .match .keys9) (c .before .before .pre) 2 (omega arith) refl
+shortfall-column-requires-2 c κs = zone-row 8 (c .match .keys9) (c .before .before .pre) 2 (omega arith) refl (omega arith)
 
 shortfall-column-requires-3 : tie.Need-shortfall-column-requires-3
 shortfall-column-requires-3 c κs =
-    let p = c .before .before .pre in own-row 9 (last-arm (kindCount - 1) (column-inside _ (p .1) .0) (c .match .rest)) p 3 (omega arith) refl
+    let p = c .before .before .pre in zone-row 9 (last-arm (kindCount - 1) (column-inside _ (p .1) .0) (c .match .rest)) p 3 (omega arith) refl (omega arith)
 
 returns : tie.Need-returns
 unfolding standing⁺ standing⁻
@@ -66,31 +66,22 @@ returns-6 c = column-is 5 (c .before .match .keys6) (c .before .before .before .
 
 returns-7 : tie.Need-returns-7
 unfolding standing⁺ standing⁻
-returns-7 c =
-    let p = c .before .before .before .pre in
-    let e = c .before .match .keys7 in
-    column-is 6 e p (c .shortfall-column .ensures ∙ rw (only-zero (own-indices 6 e p .second)))
+returns-7 c = column-is 6 (c .before .match .keys7) (c .before .before .before .pre) (c .shortfall-column .ensures)
 
 returns-8 : tie.Need-returns-8
 unfolding standing⁺ standing⁻
-returns-8 c =
-    let p = c .before .before .before .pre in
-    let e = c .before .match .keys8 in
-    column-is 7 e p (c .surplus-column .ensures ∙ rw (only-zero (own-indices 7 e p .second)))
+returns-8 c = column-is 7 (c .before .match .keys8) (c .before .before .before .pre) (c .surplus-column .ensures)
 
 returns-9 : tie.Need-returns-9
 unfolding standing⁺ standing⁻
-returns-9 c =
-    let p = c .before .before .before .pre in
-    let e = c .before .match .keys9 in
-    column-is 8 e p (c .shortfall-column2 .ensures ∙ rw (only-zero (own-indices 8 e p .second)))
+returns-9 c = column-is 8 (c .before .match .keys9) (c .before .before .before .pre) (c .shortfall-column2 .ensures)
 
 returns-10 : tie.Need-returns-10
 unfolding standing⁺ standing⁻
 returns-10 c =
     let p = c .before .before .before .pre in
     let e = last-arm (kindCount - 1) (column-inside _ (p .1) .0) (c .before .match .rest) in
-    column-is 9 e p (c .shortfall-column3 .ensures ∙ rw (only-zero (own-indices 9 e p .second), only-zero (own-indices 9 e p .slice)))
+    column-is 9 e p (c .shortfall-column3 .ensures ∙ rw (only-zero (own-indices 9 e p .slice)))
 
 pub column-sums-spec : {M : Type 1} → statement M
 column-sums-spec =

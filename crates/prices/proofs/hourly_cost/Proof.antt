@@ -9,10 +9,10 @@ use Rattle.prices.proofs.hourly_cost.Statement.{statement}
 use Rattle.prices.proofs.hourly_cost.Tie as tie
 
 abbrev Inv-loop : tie.InvT-loop
-Inv-loop «data» plan tables-at columns-at c t y b total₀ i₀ i-end total i = Summed (b .firsts) (λ i. slicesCost (read «data») c (planEntry c plan) t y i) i total
+Inv-loop «data» plan tables-at columns-at c t y total₀ i₀ i-end total i = Summed i-end (λ i. slicesCost (read «data») c (planEntry c plan) t y i) i total
 
 abbrev μ-loop : tie.MeasureT-loop
-μ-loop «data» plan tables-at columns-at c t y b total₀ i₀ i-end total i = b .firsts - i
+μ-loop «data» plan tables-at columns-at c t y total₀ i₀ i-end total i = i-end - i
 
 column-box-requires : tie.Need-column-box-requires Inv-loop μ-loop
 column-box-requires c κs = let p = c .before .before .pre in (p .0 .counted, by-hour (p .1 .1 .0) .below)

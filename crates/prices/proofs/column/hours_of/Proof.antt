@@ -7,8 +7,8 @@ use Rattle.prices.proofs.column.hours_of.Tie as tie
 
 by-slice-requires : tie.Need-by-slice-requires
 by-slice-requires c κs =
-    let p = c .before .before .pre in
-    let l = rw (by-hour (rest-hourly _ (p .1 .0) (c .match .rest)) .own _) at (p .1 .1) in
+    let s = c .before .before in
+    let l = rw (by-hour (rest-hourly _ (s .pre .1 .0) (c .match .rest)) .own (s .args .c)) at (s .pre .1 .1) in
     search needs
 
 returns : tie.Need-returns
