@@ -1,6 +1,6 @@
 -- The sums of a column, made term by term: the laws of the steps, of the loops, and of the whole. Assumes nothing.
 -- `Priced` and `Walked` are records, so that a law finds the coefficients in them.
-use mathlib.Core.Path.{_≡_, sym, ap, ap₂, _∙_, subst}
+use mathlib.Core.Path.{_≡_, sym, ap, ap₂, _∙_}
 use mathlib.Core.Bool.{Bool, true, false}
 use mathlib.Core.List.{List}
 use Prim.Native.Nat.{ℕ, _+_, _*_, _≤_, _<_, zero-le}
@@ -11,7 +11,7 @@ use lib.ListN.{getD}
 use Rattle.capped.specs.Cap.{cap}
 use Rattle.capped.proofs.Laws.{plus-cap, both-cap}
 use Rattle.sums.specs.Sum.{sum}
-use Rattle.sums.specs.Index.{Index, boxOf, Member}
+use Rattle.sums.specs.Index.{Index, index, boxOf, Member}
 use Rattle.sums.specs.Linear.{Linear, nothing, _·_, ∑, _⊕_, when, value, coefficient}
 use Rattle.sums.proofs.Sums.{sum-one-more}
 use Rattle.sums.proofs.Spans.{total-add}
@@ -20,13 +20,14 @@ use Rattle.model.specs.declared.Family.{Family}
 use Rattle.model.specs.Counts.{sets}
 use Rattle.model.specs.Data.{Data}
 use Rattle.model.specs.Columns.{columnBoxes}
-use Rattle.model.specs.Families.{family, families, familyOf, rows, equation, familyCount}
+use Rattle.model.specs.Families.{family, families, familyOf, rows, rowBoxes, equation, familyCount}
 use Rattle.model.specs.Standing.{Placed, standing⁺, standing⁻}
 use Rattle.model.specs.Tests.{multiplier, m⁺, m⁻, priced⁺, priced⁻}
 use Rattle.model.proofs.Standing.{stands}
-use Rattle.tables.specs.Layout.{Counted, Inside}
+use Rattle.tables.specs.Layout.{Counted}
 use Rattle.tables.proofs.Laws.{getD-map-in}
 use Rattle.duals.specs.Multipliers.{multiplierOf, RowsAt}
+use Rattle.duals.proofs.Laws.{family-box}
 use Rattle.columns.specs.declared.Pair.{Pair}
 use Rattle.columns.specs.Pairs.{noTerms, joined, added, taken, addedIf, takenIf, rowMultiplier, pairOf, pricedPair, familySets, Row}
 
@@ -36,9 +37,12 @@ unfolding familyOf
 family-set k h = getD-map-in (λ (f : Family). f .set) families (family 0 0 false) 0 k h
 
 pub readable : {ms : List ℤ} {rows-at : List ℕ} {c : Counts} {k y i j s : ℕ} → Row ms rows-at c k y i j s
-    → Counted c × (RowsAt ms rows-at c × ((k < familyCount) × Inside c (familyOf k .set) y i j s))
-readable {c} {k} {y} {i} {j} {s} r =
-    (r .counted, (r .rowsAt, (r .family, subst (λ (n : ℕ). Inside c n y i j s) (family-set k (r .family)) (r .inside))))
+    → Counted c × (RowsAt ms rows-at c × Member (rowBoxes c) (index k y i j s))
+unfolding rowBoxes
+readable {c} {k} r =
+    let e = family-box c (r .family) in
+    let set = family-set k (r .family) in
+    (r .counted, (r .rowsAt, (r .family, rw (e, ← set) (r .inside .year), rw (e, ← set) (r .inside .first), rw (e, ← set) (r .inside .second), rw (e, ← set) (r .inside .slice))))
 
 pub row-at : {ms : List ℤ} {rows-at : List ℕ} {c : Counts} {k y i j s : ℕ} → Counted c → RowsAt ms rows-at c → k < familyCount
     → y < boxOf (sets c) (getD familySets k 0) .years → i < boxOf (sets c) (getD familySets k 0) .firsts

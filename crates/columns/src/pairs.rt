@@ -4,6 +4,7 @@ use duals::Multiplier;
 use duals::RowStarts;
 use duals::multiplier_at;
 use model::Counts;
+use sums::Place;
 ghost use mathlib.Core.Path.{_≡_};
 ghost use mathlib.Core.Bool.{true};
 ghost use Rattle.sums.specs.Index.{index};
@@ -55,12 +56,13 @@ fn take(p: Pair, a: u64, m: Multiplier) -> Pair
     }
 }
 
-// The term of row k, y, i, j, s, in which the column has the coefficient a.
+// The term of row y, i, j, s of family k, in which the column has the coefficient a. The row is not handed over as a Place: so the compiler sees each
+// family as a constant and inlines (docs/BENCHMARKS.md).
 pub fn add_row(p: Pair, a: u64, ms: &[i64], rows_at: &RowStarts, c: Counts, k: usize, y: usize, i: usize, j: usize, s: usize) -> Pair
     requires { ⌜ Row (now ms) (now «rows_at») c k y i j s ⌝ }
     ensures { λ r. ⌜ r ≡ added p a (rowMultiplier c (now (ms .entry)) (index k y i j s)) ⌝ }
 {
-    add(p, a, multiplier_at(ms, rows_at, c, k, y, i, j, s))
+    add(p, a, multiplier_at(ms, rows_at, c, Place { kind: k, year: y, first: i, second: j, slice: s }))
 }
 
 // The term of a row in which the column has the coefficient −a.
@@ -68,7 +70,7 @@ pub fn take_row(p: Pair, a: u64, ms: &[i64], rows_at: &RowStarts, c: Counts, k: 
     requires { ⌜ Row (now ms) (now «rows_at») c k y i j s ⌝ }
     ensures { λ r. ⌜ r ≡ taken p a (rowMultiplier c (now (ms .entry)) (index k y i j s)) ⌝ }
 {
-    take(p, a, multiplier_at(ms, rows_at, c, k, y, i, j, s))
+    take(p, a, multiplier_at(ms, rows_at, c, Place { kind: k, year: y, first: i, second: j, slice: s }))
 }
 
 // The same where a test holds; where it does not, there need not be such a row.

@@ -1,7 +1,6 @@
 // The columns of links and zones: trans, unmet, surplus, spinshort and firmshort.
 use crate::Pair;
 use crate::families::BALANCE;
-use crate::families::FIRM;
 use crate::families::SPINNING;
 use crate::families::TRANSFER;
 use crate::pairs::add_row;
@@ -15,6 +14,7 @@ use model::Counts;
 use tables::starts::Starts;
 ghost use mathlib.Core.Path.{_≡_};
 ghost use Prim.Native.Nat.{_<_};
+ghost use Rattle.sums.specs.Index.{index};
 ghost use Rattle.sums.specs.Linear.{nothing, _·_};
 ghost use Rattle.model.specs.Counts.{slicesOf};
 ghost use Rattle.model.specs.Data.{read};
@@ -22,7 +22,7 @@ ghost use Rattle.model.specs.Families.{row};
 ghost use Rattle.model.specs.Standing.{transIn⁺, transIn⁻};
 ghost use Rattle.tables.specs.Layout.{Counted};
 ghost use Rattle.duals.specs.Multipliers.{RowsAt};
-ghost use Rattle.columns.specs.Pairs.{pairOf, Ready};
+ghost use Rattle.columns.specs.Pairs.{pairOf, Row, Ready};
 
 // From z to w: families 1 (z sends, w receives less the loss), 2 and 3.
 pub fn trans_column(data: &[u32], ms: &[i64], tables_at: &Starts, rows_at: &RowStarts, c: Counts, y: usize, z: usize, w: usize, s: usize) -> Pair
@@ -36,12 +36,12 @@ pub fn trans_column(data: &[u32], ms: &[i64], tables_at: &Starts, rows_at: &RowS
     take_row_if(z != w, r, 1000, ms, rows_at, c, SPINNING, y, w, 0, s)
 }
 
-// Family 1.
-pub fn unmet_column(ms: &[i64], rows_at: &RowStarts, c: Counts, y: usize, z: usize, s: usize) -> Pair
-    requires { ⌜ Counted c × (RowsAt (now ms) (now «rows_at») c × ((y < c .years) × ((z < c .zones) × (s < slicesOf c)))) ⌝ }
-    ensures { λ r. ⌜ r ≡ pairOf c (now (ms .entry)) (1 · row 1 y z 0 s) nothing ⌝ }
+// Unmet, spinshort and firmshort: what a row of family 1, 3 or 4 (`k` counts from 0) is short of.
+pub fn shortfall_column(ms: &[i64], rows_at: &RowStarts, c: Counts, k: usize, y: usize, z: usize, s: usize) -> Pair
+    requires { ⌜ Row (now ms) (now «rows_at») c k y z 0 s ⌝ }
+    ensures { λ r. ⌜ r ≡ pairOf c (now (ms .entry)) (1 · index k y z 0 s) nothing ⌝ }
 {
-    add_row(none(), 1, ms, rows_at, c, BALANCE, y, z, 0, s)
+    add_row(none(), 1, ms, rows_at, c, k, y, z, 0, s)
 }
 
 // Family 1.
@@ -50,20 +50,4 @@ pub fn surplus_column(ms: &[i64], rows_at: &RowStarts, c: Counts, y: usize, z: u
     ensures { λ r. ⌜ r ≡ pairOf c (now (ms .entry)) nothing (1 · row 1 y z 0 s) ⌝ }
 {
     take_row(none(), 1, ms, rows_at, c, BALANCE, y, z, 0, s)
-}
-
-// Family 3.
-pub fn spinshort_column(ms: &[i64], rows_at: &RowStarts, c: Counts, y: usize, z: usize, s: usize) -> Pair
-    requires { ⌜ Counted c × (RowsAt (now ms) (now «rows_at») c × ((y < c .years) × ((z < c .zones) × (s < slicesOf c)))) ⌝ }
-    ensures { λ r. ⌜ r ≡ pairOf c (now (ms .entry)) (1 · row 3 y z 0 s) nothing ⌝ }
-{
-    add_row(none(), 1, ms, rows_at, c, SPINNING, y, z, 0, s)
-}
-
-// Family 4.
-pub fn firmshort_column(ms: &[i64], rows_at: &RowStarts, c: Counts, y: usize, z: usize) -> Pair
-    requires { ⌜ Counted c × (RowsAt (now ms) (now «rows_at») c × ((y < c .years) × (z < c .zones))) ⌝ }
-    ensures { λ r. ⌜ r ≡ pairOf c (now (ms .entry)) (1 · row 4 y z 0 0) nothing ⌝ }
-{
-    add_row(none(), 1, ms, rows_at, c, FIRM, y, z, 0, 0)
 }

@@ -1,8 +1,8 @@
 -- What the functions of the families cite: a constant from the answers of the calls that make it, the tests that decide whether a row has
 -- one, and what the readers ask. Assumes nothing.
 use mathlib.Core.Path.{_≡_, refl, sym, ap₂, _∙_}
-use mathlib.Core.Bool.{Bool, true, false, _&&_}
-use mathlib.Core.List.{List}
+use mathlib.Core.Bool.{Bool, true, false, _&&_, _||_}
+use mathlib.Core.List.{List, [], _∷_}
 use Prim.Native.Nat.{ℕ, _*_, _≤_, _<_}
 use native.Mathlib.Omega.{arith}
 use lib.Dec.{eqb}
@@ -10,16 +10,16 @@ use lib.ListN.{getD}
 use borrow.Author.Tests.{eq-eqb, ne-eqb}
 use Rattle.sums.specs.Sum.{on}
 use Rattle.sums.specs.Span.{fine}
-use Rattle.sums.specs.Index.{index}
+use Rattle.sums.specs.Index.{index, Member}
 use Rattle.sums.proofs.Lists.{Alls, at-place, _and_}
 use Rattle.model.specs.declared.Counts.{Counts}
 use Rattle.model.specs.Data.{Data, read, ee, prm, tableBoxes, afterFirstHour, onMinLoadDay, isVre}
-use Rattle.model.specs.Families.{Equation, familyOf, equations, empty, outOfService, loading, offer, rampDown, rampUpward, minimumLoad, available, profiled, life, fixed, familyCount}
+use Rattle.model.specs.Families.{Equation, familyOf, equations, rowBoxes, empty, outOfService, loading, offer, rampDown, rampUpward, minimumLoad, available, profiled, life, fixed, familyCount}
 use Rattle.model.specs.Tests.{entriesFault}
 use Rattle.model.proofs.Sound.{entry-range}
 use Rattle.tables.specs.Layout.{TablesAt, Inside}
 use Rattle.constants.specs.declared.Constant.{Constant}
-use Rattle.constants.specs.Constants.{constantOf, noConstant, hasConstant}
+use Rattle.constants.specs.Constants.{constantOf, noConstant, constantFamilies, hasConstant}
 
 -- Constants
 
@@ -90,4 +90,35 @@ module _ {l tables-at : List ℕ} {c : Counts} {z : ℕ} (n : TablesAt l tables-
 
 pub inside-at : {c : Counts} {k y i j s : ℕ} (K : ℕ) → k ≡ K → Inside c (familyOf k .set) y i j s → Inside c (familyOf K .set) y i j s
 inside-at K e m = rw e at m
+
+-- k is one of some keys
+abbrev among : List ℕ → ℕ → Bool
+among [] k = false
+among (a ∷ l) k = eqb k a || among l k
+
+-- k is none of them, as the last arm of a `match` over the keys knows it
+abbrev NoneAmong : Type 0 → List ℕ → ℕ → Type 0
+NoneAmong R [] k = R
+NoneAmong R (a ∷ l) k = NoneAmong (R × (k ≡ a → ⊥)) l k
+
+none-among : {R : Type 0} (k : ℕ) (l : List ℕ) → NoneAmong R l k → R × (among l k ≡ false)
+none-among k [] h = (h, refl)
+none-among k (a ∷ l) h = let t = none-among k l h in (t .0 .0, rw (ne-eqb k a (t .0 .1), t .1))
+
+-- the families that have an arm of their own
+abbrev arms : List ℕ
+arms = 0 ∷ 1 ∷ 2 ∷ 3 ∷ 11 ∷ 14 ∷ 15 ∷ 16 ∷ 17 ∷ 18 ∷ 19 ∷ []
+
+arms-are : (k : ℕ) → k < familyCount → hasConstant k ≡ among arms k
+unfolding hasConstant
+arms-are =
+    at-place (λ k b. b ≡ among arms k) constantFamilies false
+    (refl and refl and refl and refl and refl and refl and refl and refl and refl and refl
+    and refl and refl and refl and refl and refl and refl and refl and refl and refl and refl and tt)
+
+pub without-arm : (k : ℕ) → k < familyCount → NoneAmong (Unit {0}) arms k → hasConstant k ≡ false
+without-arm k l h = arms-are k l ∙ none-among k arms h .1
+
+pub member-at : (c : Counts) {k y i j s : ℕ} (K : ℕ) → k ≡ K → Member (rowBoxes c) (index k y i j s) → Member (rowBoxes c) (index K y i j s)
+member-at c K e m = rw e at m
 

@@ -14,43 +14,38 @@ use crate::zones::spinning_constant;
 use crate::zones::transfer_constant;
 use model::Counts;
 use model::FAMILY_COUNT;
+use sums::Place;
 use tables::starts::Starts;
 ghost use mathlib.Core.Path.{_≡_};
 ghost use Prim.Native.Nat.{_<_};
 ghost use Rattle.sums.specs.Span.{fine};
-ghost use Rattle.sums.specs.Index.{index};
+ghost use Rattle.sums.specs.Index.{indexOf, Member};
 ghost use Rattle.model.specs.Data.{read};
-ghost use Rattle.model.specs.Families.{familyOf, familyCount};
+ghost use Rattle.model.specs.Families.{rowBoxes, familyCount};
 ghost use Rattle.model.specs.Tests.{entriesFault};
-ghost use Rattle.tables.specs.Layout.{TablesAt, Inside};
+ghost use Rattle.tables.specs.Layout.{TablesAt};
 ghost use Rattle.constants.specs.Constants.{constantOf, hasConstant};
 
-// Families 5 to 11, 13 and 14 have no constant.
-pub fn constant_at(data: &[u32], tables_at: &Starts, c: Counts, k: usize, y: usize, i: usize, j: usize, s: usize) -> Constant
-    requires { ⌜ TablesAt (now «data») (now «tables_at») c × ((entriesFault (read (now «data»)) ≡ fine) × ((k < familyCount) × Inside c (familyOf k .set) y i j s)) ⌝ }
-    ensures { λ r. ⌜ r ≡ constantOf (read (now («data» .entry))) (index k y i j s) ⌝ }
+// The constant of row p. Its family is told by its number counted from 0.
+pub fn constant_at(data: &[u32], tables_at: &Starts, c: Counts, p: Place) -> Constant
+    requires { ⌜ TablesAt (now «data») (now «tables_at») c × ((entriesFault (read (now «data»)) ≡ fine) × Member (rowBoxes c) (indexOf p)) ⌝ }
+    ensures { λ r. ⌜ r ≡ constantOf (read (now («data» .entry))) (indexOf p) ⌝ }
 {
+    let k = p.kind;
     match k {
-        0 => balance_constant(data, tables_at, c, y, i, s),
-        1 => transfer_constant(data, tables_at, c, y, i, j, s),
-        2 => spinning_constant(data, tables_at, c, y, i, s),
-        3 => firm_constant(data, tables_at, c, y, i),
-        4 => NONE,
-        5 => NONE,
-        6 => NONE,
-        7 => NONE,
-        8 => NONE,
-        9 => NONE,
-        10 => NONE,
-        11 => stock_constant(data, tables_at, c, y, i),
-        12 => NONE,
-        13 => NONE,
-        14 => new_capacity_constant(data, tables_at, c, i),
-        15 => yearly_build_constant(data, tables_at, c, y, i),
-        16 => fuel_use_constant(data, tables_at, c, y, j),
+        0 => balance_constant(data, tables_at, c, p.year, p.first, p.slice),
+        1 => transfer_constant(data, tables_at, c, p.year, p.first, p.second, p.slice),
+        2 => spinning_constant(data, tables_at, c, p.year, p.first, p.slice),
+        3 => firm_constant(data, tables_at, c, p.year, p.first),
+        11 => stock_constant(data, tables_at, c, p.year, p.first),
+        14 => new_capacity_constant(data, tables_at, c, p.first),
+        15 => yearly_build_constant(data, tables_at, c, p.year, p.first),
+        16 => fuel_use_constant(data, tables_at, c, p.year, p.second),
         17 => capital_constant(data, tables_at, c),
-        18 => zone_emission_constant(data, tables_at, c, y, i),
-        _ => system_emission_constant(data, tables_at, c, y),
+        18 => zone_emission_constant(data, tables_at, c, p.year, p.first),
+        19 => system_emission_constant(data, tables_at, c, p.year),
+        // 5 to 11, 13 and 14
+        _ => NONE,
     }
 }
 

@@ -116,15 +116,22 @@ module _ {shape : Shape} (h : Shaped shape) where
 
 -- A row's place among the multipliers
 
-module _ {ms : List ℤ} {rows-at : List ℕ} {c : Counts} {k y i j s : ℕ} (d : RowsAt ms rows-at c) (l : k < familyCount) (m : Inside c (familyOf k .set) y i j s) where
-  pub row-is : getD rows-at k 0 + inside (boxOf (sets c) (familyOf k .set)) y i j s ≡ number (rowBoxes c) (index k y i j s)
-  row-is = omega (arith, d .starts k (omega arith), ap (λ (b : Box). inside b y i j s) (family-box c l))
+module _ {c : Counts} {k y i j s : ℕ} (m : Member (rowBoxes c) (index k y i j s)) where
+  -- its family and its four indices
+  pub row-inside : (k < familyCount) × Inside c (familyOf k .set) y i j s
+  unfolding rowBoxes
+  row-inside =
+      let e = family-box c (m .0) in
+      (m .0, record { year = rw (← e) (m .1); «first» = rw (← e) (m .2); second = rw (← e) (m .3); slice = rw (← e) (m .4) })
 
-  pub row-below : getD rows-at k 0 + inside (boxOf (sets c) (familyOf k .set)) y i j s < length ms
-  row-below =
-      let e = family-box c l in
-      let member : Member (rowBoxes c) (index k y i j s) = (rw (row-kinds c) l, rw e (m .year), rw e (m .first), rw e (m .second), rw e (m .slice)) in
-      omega (arith, row-is, d .whole, number-bound (rowBoxes c) (index k y i j s) member)
+  module _ {ms : List ℤ} {rows-at : List ℕ} (d : RowsAt ms rows-at c) where
+    pub row-is : getD rows-at k 0 + inside (boxOf (sets c) (familyOf k .set)) y i j s ≡ number (rowBoxes c) (index k y i j s)
+    row-is =
+        let l = row-inside .0 in
+        omega (arith, d .starts k (omega arith), ap (λ (b : Box). inside b y i j s) (family-box c l))
+
+    pub row-below : getD rows-at k 0 + inside (boxOf (sets c) (familyOf k .set)) y i j s < length ms
+    row-below = omega (arith, row-is, d .whole, number-bound (rowBoxes c) (index k y i j s) m)
 
 -- Refusal 10, by row number
 

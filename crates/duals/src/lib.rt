@@ -5,6 +5,7 @@ use model::FAMILY_COUNT;
 use model::Outcome;
 use model::Refusal;
 use model::Shape;
+use sums::Place;
 use tables::sets::family_at;
 use tables::sets::inside_of;
 ghost use mathlib.Core.Path.{_≡_};
@@ -15,11 +16,11 @@ ghost use lib.IntN.{pos};
 ghost use lib.ListN.{length, getD};
 ghost use Rattle.sums.specs.Sum.{on};
 ghost use Rattle.sums.specs.Span.{orElse};
-ghost use Rattle.sums.specs.Index.{index, start, count, number};
+ghost use Rattle.sums.specs.Index.{indexOf, start, count, number, Member};
 ghost use Rattle.model.specs.Data.{Data};
 ghost use Rattle.model.specs.Families.{familyOf, rowBoxes, familyCount};
 ghost use Rattle.model.specs.Tests.{mostMultiplier, multiplierCountFault, multipliersFault};
-ghost use Rattle.tables.specs.Layout.{outcome, Counted, Inside};
+ghost use Rattle.tables.specs.Layout.{outcome, Counted};
 ghost use Rattle.duals.specs.Multipliers.{multiplierOf, Shaped, RowsAt};
 
 // The largest size of a multiplier, 2^40.
@@ -97,13 +98,13 @@ fn set_of(k: usize) -> usize
     }
 }
 
-// The multiplier of a row: family `k`, counted from 0, year `y`, first index `i`, second index `j` and slice `s`.
-// With the family a constant, inlining leaves a few products and one read.
-pub fn multiplier_at(ms: &[i64], rows_at: &RowStarts, c: Counts, k: usize, y: usize, i: usize, j: usize, s: usize) -> Multiplier
-    requires { ⌜ Counted c × (RowsAt (now ms) (now «rows_at») c × ((k < familyCount) × Inside c (familyOf k .set) y i j s)) ⌝ }
-    ensures { λ r. ⌜ r ≡ multiplierOf (getD (now (ms .entry)) (number (rowBoxes c) (index k y i j s)) (pos 0)) ⌝ }
+// The multiplier of row p. With its family a constant, inlining leaves a few products and one read.
+pub fn multiplier_at(ms: &[i64], rows_at: &RowStarts, c: Counts, p: Place) -> Multiplier
+    requires { ⌜ Counted c × (RowsAt (now ms) (now «rows_at») c × Member (rowBoxes c) (indexOf p)) ⌝ }
+    ensures { λ r. ⌜ r ≡ multiplierOf (getD (now (ms .entry)) (number (rowBoxes c) (indexOf p)) (pos 0)) ⌝ }
 {
-    let o = inside_of(c, set_of(k), y, i, j, s);
+    let k = p.kind;
+    let o = inside_of(c, set_of(k), p.year, p.first, p.second, p.slice);
     multiplier_in(ms, rows_at[k] + o)
 }
 

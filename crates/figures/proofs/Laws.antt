@@ -10,8 +10,8 @@ use lib.ListN.{length, getD}
 use borrow.Author.Tests.{leb-true, leb-false}
 use Rattle.capped.specs.declared.Sum.{Sum}
 use Rattle.capped.specs.declared.Balance.the-variants.{Is}
-use Rattle.capped.specs.Cap.{limit, cap, times}
-use Rattle.capped.proofs.Laws.{both-cap, times-cap, le-difference}
+use Rattle.capped.specs.Cap.{limit, cap}
+use Rattle.capped.proofs.Laws.{both-cap, le-difference}
 use Rattle.sums.specs.declared.Box.{Box}
 use Rattle.sums.specs.Span.{fault, orElse}
 use Rattle.sums.specs.Index.{Index, index, boxOf, Member}
@@ -21,7 +21,7 @@ use Rattle.model.specs.declared.Refusal.the-variants.{ColumnOffScale, Underpric
 use Rattle.model.specs.Counts.{sets}
 use Rattle.model.specs.Data as spec
 use Rattle.model.specs.Data.{Data, tableBoxes, countsOf, placeOf, dataLength, read, tableCount}
-use Rattle.model.specs.Columns.{columnSets, columnBoxes, columnNumber, entries, kindCount}
+use Rattle.model.specs.Columns.{columnBoxes, columnNumber, entries}
 use Rattle.model.specs.Families.{familyOf, rowBoxes, familyCount}
 use Rattle.model.specs.Prices.{price}
 use Rattle.model.specs.Tests.{unless, priced⁺, priced⁻, columnFault}
@@ -33,10 +33,9 @@ use Rattle.tables.proofs.Laws.{box-at}
 use Rattle.rows.specs.declared.Sides.{Sides}
 use Rattle.rows.specs.Ready.{sidesOf}
 use Rattle.row_tests.proofs.Steps as row
-use Rattle.prices.specs.Costs.{unitPrice, hoursOf}
-use Rattle.prices.proofs.Laws.{price-factors}
 use Rattle.columns.specs.declared.Pair.{Pair}
 use Rattle.columns.specs.Pairs.{pricedPair}
+use Rattle.columns.proofs.Arms.{column-inside}
 use Rattle.pricing.proofs.Steps as column
 use Rattle.figures.specs.declared.RowFigures.{RowFigures}
 use Rattle.figures.specs.declared.ColumnFigures.{ColumnFigures}
@@ -55,14 +54,8 @@ module _ (c : Counts) {k y i j s : ℕ} (m : Member (rowBoxes c) (index k y i j 
   row-year n = row.year-below c (row-inside .0) refl refl n (row-inside .1 .year)
 
 module _ (c : Counts) {k y i j s : ℕ} (m : Member (columnBoxes c) (index k y i j s)) where
-  pub column-inside : (k < kindCount) × Inside c (getD columnSets k 0) y i j s
-  unfolding columnBoxes
-  column-inside =
-      let e : boxOf (sets c) (getD columnSets k 0) ≡ boxOf (columnBoxes c) k = column.box-is c (m .0) refl in
-      (m .0, record { year = rw e (m .1); «first» = rw e (m .2); second = rw e (m .3); slice = rw e (m .4) })
-
   pub column-year : y < c .years
-  column-year = column.year-below c (column-inside .0) refl (column-inside .1 .year)
+  column-year = let own = column-inside c m in column.year-below c (own .0) refl (own .1 .year)
 
 module _ (c : Counts) {t y i j s : ℕ} (m : Member (tableBoxes c) (index t y i j s)) where
   pub entry-inside : (t < tableCount) × Inside c (getD tableSets t 0) y i j s
@@ -91,13 +84,10 @@ pub row-told : (l plan : List ℕ) (N : ℕ) (r : Index) {c : Counts} {s : Sides
 unfolding read sidesOf toldSides rowFigures
 row-told l plan N r e q h = h ∙ rw (q, e)
 
-pub column-told : (D : Data) (ms : List ℤ) (k y i j s : ℕ) {v : Pair} {unit p : Sum} {hours : ℕ} {f : ColumnFigures} → k < kindCount
-    → v ≡ pricedPair D ms (index k y i j s) → unit ≡ cap (unitPrice D k y i) → hours ≡ hoursOf D k s → p ≡ times unit hours
-    → f ≡ toldPair v p → f ≡ columnFigures D ms (index k y i j s)
+pub column-told : (D : Data) (ms : List ℤ) (x : Index) {v : Pair} {charged : Sum} {f : ColumnFigures} → v ≡ pricedPair D ms x → charged ≡ cap (price D x)
+    → f ≡ toldPair v charged → f ≡ columnFigures D ms x
 unfolding pricedPair toldPair columnFigures
-column-told D ms k y i j s {p = p} l a e h q n =
-    let whole : p ≡ cap (price D (index k y i j s)) = q ∙ rw (e, h) (times-cap (unitPrice D k y i) (hoursOf D k s) ∙ ap cap (price-factors D y i j s k l)) in
-    n ∙ rw (a, whole, both-cap (price D (index k y i j s)) (priced⁻ D ms (index k y i j s)))
+column-told D ms x a e n = n ∙ rw (a, e, both-cap (price D x) (priced⁻ D ms x))
 
 -- a column is refused as underpriced where its sums are within the limit and its terms above zero exceed its price and its terms below
 underpriced : (a b : Bool) (m n : ℕ) {k : ℕ} → orElse (unless a (ColumnOffScale m)) (unless b (Underpriced n)) ≡ fault (Underpriced k) → (a ≡ true) × (b ≡ false)

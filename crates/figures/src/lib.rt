@@ -118,7 +118,7 @@ fn priced_at(data: &[u32], ms: &[i64], tables_at: &Starts, rows_at: &RowStarts, 
     requires { ⌜ Ready (now «data») (now «tables_at») (now ms) (now «rows_at») c × Member (columnBoxes c) (indexOf p) ⌝ }
     ensures { λ r. ⌜ r ≡ columnFigures (read (now («data» .entry))) (now (ms .entry)) (indexOf p) ⌝ }
 {
-    let sums = column_sums(data, ms, tables_at, rows_at, c, p.kind, p.year, p.first, p.second, p.slice);
+    let sums = column_sums(data, ms, tables_at, rows_at, c, p);
     let unit = unit_price(data, tables_at, c, p.kind, p.year, p.first);
     let hours = hours_of(data, tables_at, c, p.kind, p.slice);
     told_pair(sums, capped::scale(unit, hours))

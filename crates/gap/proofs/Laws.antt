@@ -16,22 +16,20 @@ use Rattle.capped.specs.Cap.{limit, cap, times, minus, netOf}
 use Rattle.capped.proofs.Laws.{plus-cap, times-cap, net-cap}
 use Rattle.sums.specs.declared.Box.{Box}
 use Rattle.sums.specs.Sum.{sum}
-use Rattle.sums.specs.Index.{Index, index, boxOf, number}
+use Rattle.sums.specs.Index.{Index, index, boxOf, number, Member}
 use Rattle.sums.proofs.Sums.{sum-one-more, sum-zero}
 use Rattle.model.specs.declared.Counts.{Counts}
 use Rattle.model.specs.declared.Certificate.the-variants.{Issued}
 use Rattle.model.specs.declared.Refusal.the-variants.{GapOffScale}
-use Rattle.model.specs.Counts.{sets}
 use Rattle.model.specs.Data.{Data}
-use Rattle.model.specs.Families.{familyOf, rowBoxes, familyCount}
+use Rattle.model.specs.Families.{rowBoxes, familyCount}
 use Rattle.model.specs.Tests.{constant⁺, constant⁻, multiplier, m⁺, m⁻, constants⁺, constants⁻, unless, gapFault, gap}
 use Rattle.model.specs.Calls.{certificate}
-use Rattle.tables.specs.Layout.{Inside}
 use Rattle.constants.specs.declared.Constant.{Constant}
 use Rattle.constants.specs.Constants.{constantOf, hasConstant}
 use Rattle.constants.proofs.Laws.{without}
 use Rattle.duals.specs.Multipliers.{multiplierOf}
-use Rattle.duals.proofs.Laws.{family-box}
+use Rattle.duals.proofs.Laws.{row-kinds}
 use Rattle.gap.specs.declared.BySign.{BySign}
 use Rattle.gap.specs.Signs.{capped, more, withRow, term⁺, term⁻, withTerm, termsOf, walkedBox, settled}
 
@@ -86,15 +84,15 @@ module _ (c : Counts) (k : ℕ) {b : Box} (e : b ≡ walkedBox c k) where
       go true h = rw (e, h)
       go false h = no-family T (boxOf (rowBoxes c) k) k (z h) ∙ rw (e, h)
 
-  -- a row that is walked is one of its family
-  pub walked-inside : {y i j s : ℕ} → k < familyCount → y < b .years → i < b .firsts → j < b .seconds → s < b .slices → Inside c (familyOf k .set) y i j s
+  -- what is walked are rows
+  pub walked-member : {y i j s : ℕ} → k < familyCount → y < b .years → i < b .firsts → j < b .seconds → s < b .slices → Member (rowBoxes c) (index k y i j s)
   unfolding walkedBox
-  walked-inside {y} {i} {j} {s} l hy hi hj hs = go (hasConstant k) refl
+  walked-member {y} {i} {j} {s} l hy hi hj hs = go (hasConstant k) refl
     where
-      go : (f : Bool) → hasConstant k ≡ f → Inside c (familyOf k .set) y i j s
+      go : (f : Bool) → hasConstant k ≡ f → Member (rowBoxes c) (index k y i j s)
       go true h =
-          let own : boxOf (sets c) (familyOf k .set) ≡ b = sym (family-box c l) ∙ rw (e, h) in
-          record { year = rw own hy; «first» = rw own hi; second = rw own hj; slice = rw own hs }
+          let own : boxOf (rowBoxes c) k ≡ b = rw (e, h) in
+          (rw (row-kinds c) l, rw own hy, rw own hi, rw own hj, rw own hs)
       go false h = let z : b .years ≡ 0 = rw (e, h) in absurd (omega (arith, z, hy))
 
 -- The loops: after k of n turns whose turn k adds f k above zero and g k below

@@ -13,6 +13,7 @@ use model::Counts;
 use model::FAMILY_COUNT;
 use model::Refusal;
 use sums::Box;
+use sums::Place;
 use tables::sets::box_of;
 use tables::sets::family_at;
 use tables::starts::Starts;
@@ -20,12 +21,12 @@ ghost use mathlib.Core.Path.{_≡_};
 ghost use Prim.Native.Nat.{_≤_, _<_};
 ghost use Rattle.capped.specs.Cap.{limit, cap, netOf};
 ghost use Rattle.sums.specs.Span.{fine};
-ghost use Rattle.sums.specs.Index.{index};
+ghost use Rattle.sums.specs.Index.{indexOf, Member};
 ghost use Rattle.model.specs.Data.{read};
-ghost use Rattle.model.specs.Families.{familyOf, familyCount};
+ghost use Rattle.model.specs.Families.{rowBoxes, familyCount};
 ghost use Rattle.model.specs.Tests.{entriesFault, gapFault, gap};
 ghost use Rattle.model.specs.Calls.{certificate};
-ghost use Rattle.tables.specs.Layout.{Counted, TablesAt, Inside};
+ghost use Rattle.tables.specs.Layout.{Counted, TablesAt};
 ghost use Rattle.duals.specs.Multipliers.{RowsAt};
 ghost use Rattle.gap.specs.Signs.{withRow, withTerm, walkedBox, termsOf, settled};
 
@@ -48,16 +49,13 @@ fn with_row(t: BySign, m: Multiplier, k: Constant) -> BySign
     }
 }
 
-// The term of row y, i, j, s of family k, counted from 0, added.
-fn add_row(
-    data: &[u32], ms: &[i64], tables_at: &Starts, rows_at: &RowStarts, c: Counts, k: usize, y: usize, i: usize, j: usize, s: usize,
-    t: BySign,
-) -> BySign
-    requires { ⌜ TablesAt (now «data») (now «tables_at») c × ((entriesFault (read (now «data»)) ≡ fine) × (RowsAt (now ms) (now «rows_at») c × ((k < familyCount) × Inside c (familyOf k .set) y i j s))) ⌝ }
-    ensures { λ r. ⌜ r ≡ withTerm (read (now («data» .entry))) (now (ms .entry)) t (index k y i j s) ⌝ }
+// The term of row p added.
+fn add_row(data: &[u32], ms: &[i64], tables_at: &Starts, rows_at: &RowStarts, c: Counts, p: Place, t: BySign) -> BySign
+    requires { ⌜ TablesAt (now «data») (now «tables_at») c × ((entriesFault (read (now «data»)) ≡ fine) × (RowsAt (now ms) (now «rows_at») c × Member (rowBoxes c) (indexOf p))) ⌝ }
+    ensures { λ r. ⌜ r ≡ withTerm (read (now («data» .entry))) (now (ms .entry)) t (indexOf p) ⌝ }
 {
-    let m = multiplier_at(ms, rows_at, c, k, y, i, j, s);
-    with_row(t, m, constant_at(data, tables_at, c, k, y, i, j, s))
+    let m = multiplier_at(ms, rows_at, c, p);
+    with_row(t, m, constant_at(data, tables_at, c, p))
 }
 
 // The index set of a family; of one whose rows have no constant nothing is walked.
@@ -87,7 +85,8 @@ pub fn constant_terms(data: &[u32], ms: &[i64], tables_at: &Starts, rows_at: &Ro
             for i in 0..b.firsts {
                 for j in 0..b.seconds {
                     for s in 0..b.slices {
-                        t = add_row(data, ms, tables_at, rows_at, c, k, y, i, j, s, t);
+                        let row = Place { kind: k, year: y, first: i, second: j, slice: s };
+                        t = add_row(data, ms, tables_at, rows_at, c, row, t);
                     }
                 }
             }

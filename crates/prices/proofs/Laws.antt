@@ -13,7 +13,8 @@ use Rattle.capped.specs.declared.Sum.{Sum}
 use Rattle.capped.specs.Cap.{cap, plus, both, times, timesBoth}
 use Rattle.capped.proofs.Laws.{plus-cap, both-cap, times-cap, times-both}
 use Rattle.sums.specs.Sum.{sum, on}
-use Rattle.sums.specs.Index.{Index, index, box, boxOf, inside}
+use Rattle.sums.specs.declared.Place.{Place}
+use Rattle.sums.specs.Index.{Index, index, indexOf, box, boxOf, inside}
 use Rattle.sums.proofs.ByKind.{_▹_}
 use Rattle.sums.proofs.Sums.{sum-cong, sum-add, sum-scale, sum-single, sum-const-zero}
 use Rattle.model.specs.declared.Counts.{Counts}
@@ -48,43 +49,21 @@ last-table unmet a b d e = absurd (d refl)
 last-table surplus a b d e = absurd (e refl)
 last-table spinshort a b d e = refl
 
-pub table-below : {t : ℕ} → Hourly t → t < length columnSets
-table-below gen = omega arith
-table-below reserve = omega arith
-table-below unmet = omega arith
-table-below surplus = omega arith
-table-below spinshort = omega arith
+-- what is true of each of them: the columns are by year, plant or zone, and slice; the price of a column, and its two factors
+pub record ByHour (t : ℕ) : Type 0 where
+  pub below : t < kindCount
+  pub own : (c : Counts) → boxOf (sets c) (setOf t) ≡ box (c .years) (firstsOf c t) 1 (slicesOf c)
+  pub priced : (D : Data) (y i s : ℕ) → price D (index t y i 0 s) ≡ yearWeight D y * duration D s * hourPrice D t y i
+  pub unit : (D : Data) (y i : ℕ) → unitPrice D t y i ≡ hourPrice D t y i * yearWeight D y
+  pub hours : (D : Data) (s : ℕ) → hoursOf D t s ≡ duration D s
 
--- by plant below trans, by zone above it
-pub set-plants : {t : ℕ} → Hourly t → t < 5 → 3 ≡ setOf t
-set-plants gen l = refl
-set-plants reserve l = refl
-set-plants unmet l = absurd (omega arith)
-set-plants surplus l = absurd (omega arith)
-set-plants spinshort l = absurd (omega arith)
-
-pub set-zones : {t : ℕ} → Hourly t → 5 ≤ t → 0 ≡ setOf t
-set-zones gen l = absurd (omega arith)
-set-zones reserve l = absurd (omega arith)
-set-zones unmet l = refl
-set-zones surplus l = refl
-set-zones spinshort l = refl
-
--- years, plants or zones, one second index, slices
-hourly-box : {t : ℕ} → Hourly t → (c : Counts) → boxOf (sets c) (setOf t) ≡ box (c .years) (firstsOf c t) 1 (slicesOf c)
-hourly-box gen c = refl
-hourly-box reserve c = refl
-hourly-box unmet c = refl
-hourly-box surplus c = refl
-hourly-box spinshort c = refl
-
-pub hourly-price : (D : Data) {t : ℕ} → Hourly t → (y i s : ℕ) → price D (index t y i 0 s) ≡ yearWeight D y * duration D s * hourPrice D t y i
-unfolding price hourPrice
-hourly-price D gen y i s = refl
-hourly-price D reserve y i s = refl
-hourly-price D unmet y i s = refl
-hourly-price D surplus y i s = refl
-hourly-price D spinshort y i s = refl
+pub by-hour : {t : ℕ} → Hourly t → ByHour t
+unfolding price hourPrice unitPrice hoursOf
+by-hour gen = record { below = omega arith; own = λ c. refl; priced = λ D y i s. refl; unit = λ D y i. refl; hours = λ D s. refl }
+by-hour reserve = record { below = omega arith; own = λ c. refl; priced = λ D y i s. refl; unit = λ D y i. refl; hours = λ D s. refl }
+by-hour unmet = record { below = omega arith; own = λ c. refl; priced = λ D y i s. refl; unit = λ D y i. refl; hours = λ D s. refl }
+by-hour surplus = record { below = omega arith; own = λ c. refl; priced = λ D y i s. refl; unit = λ D y i. refl; hours = λ D s. refl }
+by-hour spinshort = record { below = omega arith; own = λ c. refl; priced = λ D y i s. refl; unit = λ D y i. refl; hours = λ D s. refl }
 
 pub gen-price : (D : Data) (t y i : ℕ) {s r : Sum} {g w e : ℕ} → t ≡ 3 → g ≡ genCost D y i → w ≡ tax D y → e ≡ emission D i
     → s ≡ cap g → r ≡ plus s (w * e) → r ≡ cap (hourPrice D t y i)
@@ -102,7 +81,7 @@ module _ (D : Data) (c : Counts) (x : Index → ℕ) {t : ℕ} (h : Hourly t) (y
   hours-cost : perHour * hours ≡ slicesCost D c x t y i
   hours-cost =
       sym (sum-scale (slicesOf c) perHour (λ s. duration D s * getD part s 0))
-      ∙ sum-cong (slicesOf c) (λ s l. rw (e s l, hourly-price D h y i s) (simp (mul-comm, mul-assoc, mul-left-comm)))
+      ∙ sum-cong (slicesOf c) (λ s l. rw (e s l, by-hour h .priced D y i s) (simp (mul-comm, mul-assoc, mul-left-comm)))
 
   pub hours-priced : {p q m r : Sum} {w : ℕ} → w ≡ yearWeight D y → p ≡ cap (hourPrice D t y i) → q ≡ times p w → m ≡ cap hours → r ≡ timesBoth q m
       → r ≡ cap (slicesCost D c x t y i)
@@ -111,39 +90,23 @@ module _ (D : Data) (c : Counts) (x : Index → ℕ) {t : ℕ} (h : Hourly t) (y
 
 -- A column's price in two factors
 
--- what the last arm of a `match` on the table knows
-pub rest-hourly : (k : ℕ) → k < kindCount → (k ≡ 0 → ⊥) → (k ≡ 1 → ⊥) → (k ≡ 2 → ⊥) → (k ≡ 5 → ⊥) → (k ≡ 9 → ⊥) → Hourly k
+-- none of the tables that are not priced by the hour: what the last arm of a `match` on the table knows
+abbrev Rest : ℕ → Type 0
+Rest k = ((((Unit {0} × (k ≡ 0 → ⊥)) × (k ≡ 1 → ⊥)) × (k ≡ 2 → ⊥)) × (k ≡ 5 → ⊥)) × (k ≡ 9 → ⊥)
+
+pub rest-hourly : (k : ℕ) → k < kindCount → Rest k → Hourly k
 rest-hourly =
     (λ i l. absurd (omega arith))
-    ▹ (λ a b d e f. absurd (a refl))
-    ▹ (λ a b d e f. absurd (b refl))
-    ▹ (λ a b d e f. absurd (d refl))
-    ▹ (λ a b d e f. gen)
-    ▹ (λ a b d e f. reserve)
-    ▹ (λ a b d e f. absurd (e refl))
-    ▹ (λ a b d e f. unmet)
-    ▹ (λ a b d e f. surplus)
-    ▹ (λ a b d e f. spinshort)
-    ▹ (λ a b d e f. absurd (f refl))
-
-pub hourly-slices : {k : ℕ} → Hourly k → (c : Counts) {s : ℕ} → s < boxOf (sets c) (setOf k) .slices → s < slicesOf c
-hourly-slices h c l = rw (hourly-box h c) at l
-
-pub hourly-unit : (D : Data) {k : ℕ} → Hourly k → (y i : ℕ) → unitPrice D k y i ≡ hourPrice D k y i * yearWeight D y
-unfolding unitPrice
-hourly-unit D gen y i = refl
-hourly-unit D reserve y i = refl
-hourly-unit D unmet y i = refl
-hourly-unit D surplus y i = refl
-hourly-unit D spinshort y i = refl
-
-pub hourly-hours : (D : Data) {k : ℕ} → Hourly k → (s : ℕ) → hoursOf D k s ≡ duration D s
-unfolding hoursOf
-hourly-hours D gen s = refl
-hourly-hours D reserve s = refl
-hourly-hours D unmet s = refl
-hourly-hours D surplus s = refl
-hourly-hours D spinshort s = refl
+    ▹ (λ r. absurd (r .0 .0 .0 .0 .1 refl))
+    ▹ (λ r. absurd (r .0 .0 .0 .1 refl))
+    ▹ (λ r. absurd (r .0 .0 .1 refl))
+    ▹ (λ r. gen)
+    ▹ (λ r. reserve)
+    ▹ (λ r. absurd (r .0 .1 refl))
+    ▹ (λ r. unmet)
+    ▹ (λ r. surplus)
+    ▹ (λ r. spinshort)
+    ▹ (λ r. absurd (r .1 refl))
 
 -- a column's price is that of its unit times its hours
 module _ (D : Data) (y i j s : ℕ) where
@@ -165,21 +128,27 @@ module _ (D : Data) (y i j s : ℕ) where
       ▹ in-order _
       ▹ mul-one _
 
+-- so is what the code makes of the two
+pub column-price : (D : Data) (p : Place) {unit whole : Sum} {hours : ℕ} → p .kind < kindCount → unit ≡ cap (unitPrice D (p .kind) (p .year) (p .first))
+    → hours ≡ hoursOf D (p .kind) (p .slice) → whole ≡ times unit hours → whole ≡ cap (price D (indexOf p))
+column-price D p l e h q =
+    q ∙ rw (e, h) (times-cap (unitPrice D (p .kind) (p .year) (p .first)) (hoursOf D (p .kind) (p .slice)) ∙ ap cap (price-factors D (p .year) (p .first) (p .second) (p .slice) (p .kind) l))
+
 -- The part of the plan that holds the slices of plant or zone i in year y
 module _ {plan columns-at : List ℕ} {c : Counts} {t y i : ℕ} (m : Hours plan columns-at c t y i) where
   pub slices-inside : {k s : ℕ} → k ≡ setOf t → s < slicesOf c → Inside c k y i 0 s
   slices-inside e l = rw e (record {
-    year = rw (hourly-box (m .table) c) (m .year);
+    year = rw (by-hour (m .table) .own c) (m .year);
     «first» = m .first;
-    second = rw (hourly-box (m .table) c) (omega arith);
-    slice = rw (hourly-box (m .table) c) l;
+    second = rw (by-hour (m .table) .own c) (omega arith);
+    slice = rw (by-hour (m .table) .own c) l;
   })
 
   pub some-slices : 0 < slicesOf c
   some-slices = mul-pos (mul-pos (m .counted .someSeasons) (m .counted .someDays)) (m .counted .someHours)
 
   column : {s : ℕ} → s < slicesOf c → ColumnAt plan columns-at c t (setOf t) y i 0 s
-  column l = record { columnsAt = m .columnsAt; counted = m .counted; table = table-below (m .table); set = refl; inside = slices-inside refl l }
+  column l = record { columnsAt = m .columnsAt; counted = m .counted; table = by-hour (m .table) .below; set = refl; inside = slices-inside refl l }
 
   -- the code has the index set's code k, the place o of the first slice inside the table, and the number n of slices in locals
   module _ {k o n : ℕ} (ek : k ≡ setOf t) (eo : o ≡ inside (boxOf (sets c) k) y i 0 0) (en : n ≡ slicesOf c) where

@@ -30,10 +30,11 @@ use tables::names::SURPLUS_PENALTY;
 use tables::names::TAX;
 use tables::names::UNMET;
 use tables::names::VOLL;
-use tables::sets::box_of;
 use tables::sets::inside_of;
 use tables::sets::slices_of;
 use tables::starts::Starts;
+use tables::starts::column_box;
+use tables::starts::column_set;
 use terms::plants::year_weight;
 ghost use mathlib.Core.Path.{_≡_};
 ghost use Prim.Native.Nat.{ℕ, _+_, _*_, _≤_, _<_};
@@ -44,8 +45,8 @@ ghost use Rattle.sums.specs.Index.{index};
 ghost use Rattle.model.specs.Counts.{slicesOf};
 ghost use Rattle.model.specs.Data.{read, duration, fixedOM, annuity, candidate};
 ghost use Rattle.model.specs.Prices.{cost};
-ghost use Rattle.tables.specs.Layout.{Counted, TablesAt, ColumnsAt, planEntry};
-ghost use Rattle.prices.specs.Costs.{Hourly, Hours, setOf, firstsOf, hourPrice, capCost, slicesCost, hourlyCost, hoursCost, firmshortCost, yearCost};
+ghost use Rattle.tables.specs.Layout.{TablesAt, ColumnsAt, planEntry};
+ghost use Rattle.prices.specs.Costs.{Hourly, Hours, firstsOf, hourPrice, capCost, slicesCost, hourlyCost, hoursCost, firmshortCost, yearCost};
 
 // FixedOM, and for a candidate the annuity: mills per MW and year.
 pub fn yearly_price(data: &[u32], tables_at: &Starts, c: Counts, y: usize, g: usize) -> u64
@@ -121,30 +122,13 @@ pub fn hour_price(data: &[u32], tables_at: &Starts, c: Counts, t: usize, y: usiz
     }
 }
 
-// The code of a table's index set: by plant or by zone.
-fn set_of(t: usize) -> usize
-    requires { ⌜ Hourly t ⌝ }
-    ensures { λ r. ⌜ r ≡ setOf t ⌝ }
-{
-    if t < 5 { 3 } else { 0 }
-}
-
-// How many plants or zones a table has.
-fn firsts_of(c: Counts, t: usize) -> usize
-    requires { ⌜ Counted c × Hourly t ⌝ }
-    ensures { λ r. ⌜ r ≡ firstsOf c t ⌝ }
-{
-    let b = box_of(c, set_of(t));
-    b.firsts
-}
-
 // The slices of plant or zone i in year y: a part of the plan.
 fn slices_at<'a>(plan: &'a [u32], columns_at: &Starts, c: Counts, t: usize, y: usize, i: usize) -> &'a [u32]
     requires { ⌜ Hours (now plan) (now «columns_at») c t y i ⌝ }
     ensures { λ r. ⌜ (length (now r) ≡ slicesOf c) × ((s : ℕ) → s < slicesOf c → getD (now r) s 0 ≡ planEntry c (now (plan .entry)) (index t y i 0 s)) ⌝ }
 {
     let n = slices_of(c);
-    let first = inside_of(c, set_of(t), y, i, 0, 0);
+    let first = inside_of(c, column_set(t), y, i, 0, 0);
     part_of(plan, columns_at[t] + first, n)
 }
 
@@ -185,9 +169,9 @@ fn hourly_cost(data: &[u32], plan: &[u32], tables_at: &Starts, columns_at: &Star
     requires { ⌜ TablesAt (now «data») (now «tables_at») c × (ColumnsAt (now plan) (now «columns_at») c × (Hourly t × (y < c .years))) ⌝ }
     ensures { λ r. ⌜ r ≡ cap (hourlyCost (read (now («data» .entry))) c (planEntry c (now (plan .entry))) t y) ⌝ }
 {
-    let firsts = firsts_of(c, t);
+    let b = column_box(c, t);
     let mut total = capped::zero();
-    for i in 0..firsts {
+    for i in 0..b.firsts {
         total = capped::join(total, slices_cost(data, plan, tables_at, columns_at, c, t, y, i));
     }
     total

@@ -7,7 +7,7 @@ use lib.IntN.{ℤ}
 use lib.ListN.{length, getD}
 use Rattle.sums.specs.declared.Box.{Box}
 use Rattle.sums.specs.Span.{Fault, first}
-use Rattle.sums.specs.Index.{box, boxOf, members}
+use Rattle.sums.specs.Index.{index, box, boxOf, members, Member}
 use Rattle.sums.proofs.Lists.{at-place}
 use Rattle.model.specs.declared.Counts.{Counts}
 use Rattle.model.specs.declared.Refusal.{Refusal}
@@ -15,7 +15,7 @@ use Rattle.model.specs.Counts.{sets}
 use Rattle.model.specs.Data.{Data}
 use Rattle.model.specs.Columns.{columnSets, columnBoxes, kindCount}
 use Rattle.model.specs.Tests.{columnFault, columnsFault}
-use Rattle.tables.specs.Layout.{Counted, Inside, outcome}
+use Rattle.tables.specs.Layout.{outcome}
 use Rattle.tables.proofs.Laws.{box-at}
 
 -- there are ten tables of columns
@@ -41,8 +41,8 @@ module _ (c : Counts) {k : ℕ} {b : Box} (l : k < kindCount) (e : b ≡ boxOf (
   unfolding columnBoxes
   box-is = e ∙ sym (box-at c columnSets k l)
 
-  pub inside-is : {y i j s : ℕ} → y < b .years → i < b .firsts → j < b .seconds → s < b .slices → Inside c (getD columnSets k 0) y i j s
-  inside-is hy hi hj hs = record { year = rw (← e) hy; «first» = rw (← e) hi; second = rw (← e) hj; slice = rw (← e) hs }
+  pub column-member : {y i j s : ℕ} → y < b .years → i < b .firsts → j < b .seconds → s < b .slices → Member (columnBoxes c) (index k y i j s)
+  column-member hy hi hj hs = (table-below c l, rw (← box-is) hy, rw (← box-is) hi, rw (← box-is) hj, rw (← box-is) hs)
 
   pub first-below : {i : ℕ} → i < b .firsts → i < boxOf (sets c) (getD columnSets k 0) .firsts
   first-below h = rw (← e) h

@@ -1,5 +1,5 @@
 -- The verdict on a column, as the code finds it and as the document says it. Assumes nothing.
-use mathlib.Core.Path.{_≡_, refl, ap, _∙_}
+use mathlib.Core.Path.{_≡_, refl, _∙_}
 use mathlib.Core.Bool.{Bool, true, false, _&&_, _||_}
 use mathlib.Core.List.{List}
 use mathlib.Core.Logic.{⊎-elim}
@@ -12,9 +12,10 @@ use borrow.Author.Tests.{le-ltb, lt-ltb, le-leb, lt-leb}
 use Rattle.capped.specs.declared.Sum.{Sum}
 use Rattle.capped.specs.declared.Order.{Order}
 use Rattle.capped.specs.Cap.{limit, cap, both, times, over, order}
-use Rattle.capped.proofs.Laws.{over-cap, lt-order, eq-order, gt-order, le-or-lt, both-cap, times-cap}
+use Rattle.capped.proofs.Laws.{over-cap, lt-order, eq-order, gt-order, le-or-lt, both-cap}
 use Rattle.sums.specs.Span.{orElse}
-use Rattle.sums.specs.Index.{Index, index}
+use Rattle.sums.specs.declared.Place.{Place}
+use Rattle.sums.specs.Index.{indexOf}
 use Rattle.model.specs.declared.Outcome.{Outcome}
 use Rattle.model.specs.declared.Outcome.the-variants.{Fails}
 use Rattle.model.specs.declared.Refusal.the-variants.{ColumnOffScale, Underpriced}
@@ -24,7 +25,7 @@ use Rattle.model.specs.Prices.{price}
 use Rattle.model.specs.Tests.{priced⁺, priced⁻, unless, columnFault}
 use Rattle.tables.specs.Layout.{outcome}
 use Rattle.prices.specs.Costs.{unitPrice, hoursOf}
-use Rattle.prices.proofs.Laws.{price-factors}
+use Rattle.prices.proofs.Laws.{column-price}
 use Rattle.columns.specs.declared.Pair.{Pair}
 use Rattle.columns.specs.Pairs.{pricedPair}
 use Rattle.pricing.specs.Verdict.{verdictOf, ordered}
@@ -66,10 +67,9 @@ two-sums u d p column =
     (λ (h : limit < u). rw (over-cap u, lt-ltb limit u h, lt-leb u limit h)) (le-or-lt u limit)
 
 -- a column's verdict is the document's test of it
-pub verdict-is : (D : Data) (ms : List ℤ) (k y i j s : ℕ) {v : Pair} {unit p : Sum} {hours column : ℕ} → k < kindCount
-    → v ≡ pricedPair D ms (index k y i j s) → unit ≡ cap (unitPrice D k y i) → hours ≡ hoursOf D k s → p ≡ times unit hours
-    → column ≡ columnNumber D (index k y i j s) → verdictOf v p column ≡ outcome (columnFault D ms (index k y i j s))
+pub verdict-is : (D : Data) (ms : List ℤ) (p : Place) {v : Pair} {unit whole : Sum} {hours column : ℕ} → p .kind < kindCount
+    → v ≡ pricedPair D ms (indexOf p) → unit ≡ cap (unitPrice D (p .kind) (p .year) (p .first)) → hours ≡ hoursOf D (p .kind) (p .slice) → whole ≡ times unit hours
+    → column ≡ columnNumber D (indexOf p) → verdictOf v whole column ≡ outcome (columnFault D ms (indexOf p))
 unfolding pricedPair columnFault
-verdict-is D ms k y i j s {p = p} l a e h q n =
-    let whole : p ≡ cap (price D (index k y i j s)) = q ∙ rw (e, h) (times-cap (unitPrice D k y i) (hoursOf D k s) ∙ ap cap (price-factors D y i j s k l)) in
-    rw (a, whole, n) (two-sums (priced⁺ D ms (index k y i j s)) (priced⁻ D ms (index k y i j s)) (price D (index k y i j s)) (columnNumber D (index k y i j s)))
+verdict-is D ms p l a e h q n =
+    rw (a, column-price D p l e h q, n) (two-sums (priced⁺ D ms (indexOf p)) (priced⁻ D ms (indexOf p)) (price D (indexOf p)) (columnNumber D (indexOf p)))

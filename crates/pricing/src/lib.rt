@@ -10,18 +10,17 @@ use model::Outcome;
 use model::Refusal;
 use prices::column::hours_of;
 use prices::column::unit_price;
+use sums::Place;
 use tables::starts::Starts;
 use tables::starts::column_box;
 ghost use mathlib.Core.Path.{_≡_};
 ghost use mathlib.Core.Bool.{_||_};
-ghost use Prim.Native.Nat.{_<_};
-ghost use lib.ListN.{getD};
 ghost use Rattle.capped.specs.Cap.{cap, over};
-ghost use Rattle.sums.specs.Index.{index, number};
+ghost use Rattle.sums.specs.Index.{indexOf, number, Member};
 ghost use Rattle.model.specs.Data.{read};
-ghost use Rattle.model.specs.Columns.{columnSets, columnBoxes, kindCount};
+ghost use Rattle.model.specs.Columns.{columnBoxes};
 ghost use Rattle.model.specs.Tests.{columnFault, columnsFault};
-ghost use Rattle.tables.specs.Layout.{Inside, outcome};
+ghost use Rattle.tables.specs.Layout.{outcome};
 ghost use Rattle.prices.specs.Costs.{unitPrice};
 ghost use Rattle.columns.specs.Pairs.{Ready};
 ghost use Rattle.pricing.specs.Verdict.{verdictOf};
@@ -56,16 +55,14 @@ fn verdict(sums: Pair, price: Sum, column: usize) -> Outcome
     }
 }
 
-// The test of one column, whose number is `column`; `unit` is the price of its unit, or of a unit's hour.
-fn test_column(
-    data: &[u32], ms: &[i64], tables_at: &Starts, rows_at: &RowStarts, c: Counts, k: usize, y: usize, i: usize, j: usize, s: usize, unit: Sum, column: usize,
-) -> Outcome
-    requires { ⌜ Ready (now «data») (now «tables_at») (now ms) (now «rows_at») c × ((k < kindCount) × (Inside c (getD columnSets k 0) y i j s
-        × ((unit ≡ cap (unitPrice (read (now «data»)) k y i)) × (column ≡ number (columnBoxes c) (index k y i j s))))) ⌝ }
-    ensures { λ r. ⌜ r ≡ outcome (columnFault (read (now («data» .entry))) (now (ms .entry)) (index k y i j s)) ⌝ }
+// The test of column p, whose number is `column`; `unit` is the price of its unit, or of a unit's hour.
+fn test_column(data: &[u32], ms: &[i64], tables_at: &Starts, rows_at: &RowStarts, c: Counts, p: Place, unit: Sum, column: usize) -> Outcome
+    requires { ⌜ Ready (now «data») (now «tables_at») (now ms) (now «rows_at») c × (Member (columnBoxes c) (indexOf p)
+        × ((unit ≡ cap (unitPrice (read (now «data»)) (p .kind) (p .year) (p .first))) × (column ≡ number (columnBoxes c) (indexOf p)))) ⌝ }
+    ensures { λ r. ⌜ r ≡ outcome (columnFault (read (now («data» .entry))) (now (ms .entry)) (indexOf p)) ⌝ }
 {
-    let sums = column_sums(data, ms, tables_at, rows_at, c, k, y, i, j, s);
-    let price = capped::scale(unit, hours_of(data, tables_at, c, k, s));
+    let sums = column_sums(data, ms, tables_at, rows_at, c, p);
+    let price = capped::scale(unit, hours_of(data, tables_at, c, p.kind, p.slice));
     verdict(sums, price, column)
 }
 
@@ -83,7 +80,8 @@ pub fn test_columns(data: &[u32], ms: &[i64], tables_at: &Starts, rows_at: &RowS
                 let unit = unit_price(data, tables_at, c, k, y, i);
                 for j in 0..b.seconds {
                     for s in 0..b.slices {
-                        match test_column(data, ms, tables_at, rows_at, c, k, y, i, j, s, unit, column) {
+                        let p = Place { kind: k, year: y, first: i, second: j, slice: s };
+                        match test_column(data, ms, tables_at, rows_at, c, p, unit, column) {
                             Outcome::Fine => column += 1,
                             Outcome::Fails(r) => {
                                 answer = Outcome::Fails(r);

@@ -1,10 +1,11 @@
 use Prim.Native.Nat.{_-_}
-use mathlib.Core.Path.{_≡_}
+use mathlib.Core.Path.{refl, _∙_}
 use native.Mathlib.Omega.{arith}
+use Rattle.sums.proofs.ByKind.{only-zero}
 use Rattle.model.specs.Standing.{standing⁺, standing⁻}
 use Rattle.model.specs.Columns.{kindCount}
 use Rattle.tables.proofs.Laws.{last-arm}
-use Rattle.columns.proofs.Arms.{by-first, by-slice, by-second, zone-by-first, zone-by-slice, column-is}
+use Rattle.columns.proofs.Arms.{column-inside, own-indices, by-first, by-slice, by-second, zone-by-slice, zone-row, column-is}
 use Rattle.columns.proofs.column_sums.Statement.{statement}
 use Rattle.columns.proofs.column_sums.Tie as tie
 
@@ -26,18 +27,18 @@ reserve-column-requires c κs = by-slice 4 (c .match .keys5) (c .before .before 
 trans-column-requires : tie.Need-trans-column-requires
 trans-column-requires c κs = by-second 5 (c .match .keys6) (c .before .before .pre)
 
-unmet-column-requires : tie.Need-unmet-column-requires
-unmet-column-requires c κs = zone-by-slice 6 (c .match .keys7) (c .before .before .pre)
+shortfall-column-requires : tie.Need-shortfall-column-requires
+shortfall-column-requires c κs = zone-row 6 (c .match .keys7) (c .before .before .pre) 0 (omega arith) refl (omega arith)
 
 surplus-column-requires : tie.Need-surplus-column-requires
 surplus-column-requires c κs = zone-by-slice 7 (c .match .keys8) (c .before .before .pre)
 
-spinshort-column-requires : tie.Need-spinshort-column-requires
-spinshort-column-requires c κs = zone-by-slice 8 (c .match .keys9) (c .before .before .pre)
+shortfall-column-requires-2 : tie.Need-shortfall-column-requires-2
+shortfall-column-requires-2 c κs = zone-row 8 (c .match .keys9) (c .before .before .pre) 2 (omega arith) refl (omega arith)
 
-firmshort-column-requires : tie.Need-firmshort-column-requires
-firmshort-column-requires c κs =
-    let p = c .before .before .pre in zone-by-first _ (last-arm (kindCount - 1) (p .1 .1 .1 .0) (c .match .rest)) p
+shortfall-column-requires-3 : tie.Need-shortfall-column-requires-3
+shortfall-column-requires-3 c κs =
+    let p = c .before .before .pre in zone-row 9 (last-arm (kindCount - 1) (column-inside _ (p .1) .0) (c .match .rest)) p 3 (omega arith) refl (omega arith)
 
 returns : tie.Need-returns
 unfolding standing⁺ standing⁻
@@ -65,7 +66,7 @@ returns-6 c = column-is 5 (c .before .match .keys6) (c .before .before .before .
 
 returns-7 : tie.Need-returns-7
 unfolding standing⁺ standing⁻
-returns-7 c = column-is 6 (c .before .match .keys7) (c .before .before .before .pre) (c .unmet-column .ensures)
+returns-7 c = column-is 6 (c .before .match .keys7) (c .before .before .before .pre) (c .shortfall-column .ensures)
 
 returns-8 : tie.Need-returns-8
 unfolding standing⁺ standing⁻
@@ -73,12 +74,14 @@ returns-8 c = column-is 7 (c .before .match .keys8) (c .before .before .before .
 
 returns-9 : tie.Need-returns-9
 unfolding standing⁺ standing⁻
-returns-9 c = column-is 8 (c .before .match .keys9) (c .before .before .before .pre) (c .spinshort-column .ensures)
+returns-9 c = column-is 8 (c .before .match .keys9) (c .before .before .before .pre) (c .shortfall-column2 .ensures)
 
 returns-10 : tie.Need-returns-10
 unfolding standing⁺ standing⁻
 returns-10 c =
-    let p = c .before .before .before .pre in column-is _ (last-arm (kindCount - 1) (p .1 .1 .1 .0) (c .before .match .rest)) p (c .firmshort-column .ensures)
+    let p = c .before .before .before .pre in
+    let e = last-arm (kindCount - 1) (column-inside _ (p .1) .0) (c .before .match .rest) in
+    column-is 9 e p (c .shortfall-column3 .ensures ∙ rw (only-zero (own-indices 9 e p .slice)))
 
 pub column-sums-spec : {M : Type 1} → statement M
 column-sums-spec =
@@ -90,10 +93,10 @@ column-sums-spec =
     gen-column-requires
     reserve-column-requires
     trans-column-requires
-    unmet-column-requires
+    shortfall-column-requires
     surplus-column-requires
-    spinshort-column-requires
-    firmshort-column-requires
+    shortfall-column-requires-2
+    shortfall-column-requires-3
     returns
     returns-2
     returns-3

@@ -4,7 +4,7 @@ use Rattle.sums.specs.Index.{index, boxOf}
 use Rattle.model.specs.Data.{read}
 use Rattle.model.specs.Families.{rowBoxes, familyCount}
 use Rattle.gap.specs.Signs.{term⁺, term⁻, withTerm}
-use Rattle.gap.proofs.Laws.{Adding, ofSecond, ofFirst, ofYear, ofFamily, begin, add, turn, walked-sum, walked-inside, no-term⁺, no-term⁻, all-terms}
+use Rattle.gap.proofs.Laws.{Adding, ofSecond, ofFirst, ofYear, ofFamily, begin, add, turn, walked-sum, walked-member, no-term⁺, no-term⁻, all-terms}
 use borrow.Author.Needs.{needs}
 use Rattle.gap.proofs.constant_terms.Statement.{statement}
 use Rattle.gap.proofs.constant_terms.Tie as tie
@@ -43,7 +43,7 @@ abbrev μ-loop2 : tie.MeasureT-loop2
 
 abbrev Inv-loop : tie.InvT-loop
 Inv-loop «data» ms tables-at rows-at c t₀ k₀ t k =
-    Adding (λ k. ofFamily (term⁺ (read «data») ms) (boxOf (rowBoxes c) k) k) (λ k. ofFamily (term⁻ (read «data») ms) (boxOf (rowBoxes c) k) k) 20 t₀ k t
+    Adding (λ k. ofFamily (term⁺ (read «data») ms) (boxOf (rowBoxes c) k) k) (λ k. ofFamily (term⁻ (read «data») ms) (boxOf (rowBoxes c) k) k) familyCount t₀ k t
 
 abbrev μ-loop : tie.MeasureT-loop
 μ-loop «data» ms tables-at rows-at c t₀ k₀ t k =
@@ -95,8 +95,8 @@ add-row-requires c κs =
     let c12 = c8 .before .before .before .before in
     let p = c12 .before .before .pre in
     let k = c8 .before .loop-test .taken in
-    let i = walked-inside _ _ (c8 .walked-box .ensures) k (c4 .before .before .loop2-test .taken) (c4 .loop3-test .taken) (c .before .before .loop4-test .taken) (c .loop5-test .taken) in
-    (p .0, (p .1 .0, (p .1 .1, (k, i))))
+    let m = walked-member _ _ (c8 .walked-box .ensures) k (c4 .before .before .loop2-test .taken) (c4 .loop3-test .taken) (c .before .before .loop4-test .taken) (c .loop5-test .taken) in
+    (p .0, (p .1 .0, (p .1 .1, m)))
 
 add-s : here tie.Need-add-s
 add-s c = search needs

@@ -3,19 +3,19 @@ use Rattle.model.specs.Data.{read}
 use Rattle.tables.specs.Layout.{planEntry}
 use Rattle.terms.proofs.Laws.{Summed, summed-none, summed-more, summed-all}
 use Rattle.prices.specs.Costs.{slicesCost}
-use Rattle.prices.proofs.Laws.{joined}
+use Rattle.prices.proofs.Laws.{by-hour, joined}
 use borrow.Author.Needs.{needs}
 use Rattle.prices.proofs.hourly_cost.Statement.{statement}
 use Rattle.prices.proofs.hourly_cost.Tie as tie
 
 abbrev Inv-loop : tie.InvT-loop
-Inv-loop «data» plan tables-at columns-at c t y firsts total₀ i₀ total i = Summed firsts (λ i. slicesCost (read «data») c (planEntry c plan) t y i) i total
+Inv-loop «data» plan tables-at columns-at c t y total₀ i₀ i-end total i = Summed i-end (λ i. slicesCost (read «data») c (planEntry c plan) t y i) i total
 
 abbrev μ-loop : tie.MeasureT-loop
-μ-loop «data» plan tables-at columns-at c t y firsts total₀ i₀ total i = firsts - i
+μ-loop «data» plan tables-at columns-at c t y total₀ i₀ i-end total i = i-end - i
 
-firsts-of-requires : tie.Need-firsts-of-requires Inv-loop μ-loop
-firsts-of-requires c κs = search needs
+column-box-requires : tie.Need-column-box-requires Inv-loop μ-loop
+column-box-requires c κs = let p = c .before .before .pre in (p .0 .counted, by-hour (p .1 .1 .0) .below)
 
 zero-requires : tie.Need-zero-requires Inv-loop μ-loop
 zero-requires c κs = search needs
@@ -25,7 +25,7 @@ loop-holds c = summed-none (c .zero .ensures)
 
 slices-cost-requires : tie.Need-slices-cost-requires Inv-loop μ-loop
 slices-cost-requires c κs =
-    let l = rw (c .before .before .before .firsts-of .ensures) at (c .loop-test .taken) in
+    let l = rw (c .before .before .before .column-box .ensures .0) at (c .loop-test .taken) in
     search needs
 
 join-requires : tie.Need-join-requires Inv-loop μ-loop
@@ -45,7 +45,7 @@ loop-again c =
 
 returns : tie.Need-returns Inv-loop μ-loop
 returns c =
-    rw (← c .before .before .before .firsts-of .ensures) (summed-all (c .before .loop .inv) (c .loop-test .left))
+    rw (← c .before .before .before .column-box .ensures .0) (summed-all (c .before .loop .inv) (c .loop-test .left))
 
 pub hourly-cost-spec : {M : Type 1} → statement M
 hourly-cost-spec =
@@ -53,7 +53,7 @@ hourly-cost-spec =
     (tie.spec
     Inv-loop
     μ-loop
-    firsts-of-requires
+    column-box-requires
     zero-requires
     loop-holds
     slices-cost-requires

@@ -7,7 +7,7 @@ use Rattle.model.specs.Columns.{columnBoxes, kindCount}
 use Rattle.model.specs.Tests.{columnFault}
 use Rattle.tables.proofs.Steps.{Going, Walked, ofSecond, ofFirst, ofYear, yearMembers, none, more, turn, walked-none, walked-more, walked-all}
 use Rattle.tables.proofs.Steps.{member-number, member-below, stopped, outcome-fine, outcome-fails}
-use Rattle.pricing.proofs.Steps.{table-below, tables-end, columns-fit, box-is, inside-is, first-below, year-below, answered}
+use Rattle.pricing.proofs.Steps.{table-below, tables-end, columns-fit, box-is, column-member, first-below, year-below, answered}
 use borrow.Author.Needs.{needs}
 use Rattle.pricing.proofs.test_columns.Statement.{statement}
 use Rattle.pricing.proofs.test_columns.Tie as tie
@@ -100,7 +100,7 @@ test-column-requires c κs =
     let hj = c .before .before .loop3-test .taken in
     let hs = c .loop4-test .taken in
     let number = member-number (c8 .before .before .before .walk .inv) (table-below _ l) (box-is _ l b) (c8 .loop .inv) hy (c4 .before .before .loop2 .inv) hi (c .before .before .before .loop3 .inv) hj (c .before .loop4 .inv) hs in
-    (p, (l, (inside-is _ l b hy hi hj hs, (c4 .unit-price .ensures, number))))
+    (p, (column-member _ l b hy hi hj hs, (c4 .unit-price .ensures, number)))
 
 enum-told : here tie.Need-enum-told
 enum-told c = search needs

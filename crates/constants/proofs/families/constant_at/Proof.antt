@@ -1,76 +1,72 @@
-use mathlib.Core.Path.{refl}
-use native.Mathlib.Omega.{arith}
-use Prim.Native.Nat.{_-_}
-use Rattle.model.specs.Families.{familyOf, familyCount}
-use Rattle.constants.specs.Constants.{constantOf, hasConstant}
-use Rattle.tables.proofs.Laws.{last-arm}
-use Rattle.constants.proofs.Laws.{without, inside-at}
+use Rattle.model.specs.Families.{rowBoxes}
+use Rattle.constants.specs.Constants.{constantOf}
+use Rattle.constants.proofs.Laws.{without, without-arm, member-at}
 use borrow.Author.Needs.{needs}
 use Rattle.constants.proofs.families.constant_at.Statement.{statement}
 use Rattle.constants.proofs.families.constant_at.Tie as tie
 
 balance-constant-requires : tie.Need-balance-constant-requires
-unfolding familyOf
-balance-constant-requires c κs = 
+unfolding rowBoxes
+balance-constant-requires c κs =
     let p = c .before .before .pre in
-    let m = inside-at 0 (c .match .keys1) (p .1 .1 .1) in (p .0, (p .1 .0, (m .year, (m .first, m .slice))))
+    let m = member-at _ 0 (c .match .keys1) (p .1 .1) in (p .0, (p .1 .0, (m .1, (m .2, m .4))))
 
 transfer-constant-requires : tie.Need-transfer-constant-requires
-unfolding familyOf
-transfer-constant-requires c κs = 
+unfolding rowBoxes
+transfer-constant-requires c κs =
     let p = c .before .before .pre in
-    let m = inside-at 1 (c .match .keys2) (p .1 .1 .1) in (p .0, (m .year, (m .first, (m .second, m .slice))))
+    let m = member-at _ 1 (c .match .keys2) (p .1 .1) in (p .0, (m .1, (m .2, (m .3, m .4))))
 
 spinning-constant-requires : tie.Need-spinning-constant-requires
-unfolding familyOf
-spinning-constant-requires c κs = 
+unfolding rowBoxes
+spinning-constant-requires c κs =
     let p = c .before .before .pre in
-    let m = inside-at 2 (c .match .keys3) (p .1 .1 .1) in (p .0, (m .year, (m .first, m .slice)))
+    let m = member-at _ 2 (c .match .keys3) (p .1 .1) in (p .0, (m .1, (m .2, m .4)))
 
 firm-constant-requires : tie.Need-firm-constant-requires
-unfolding familyOf
-firm-constant-requires c κs = 
+unfolding rowBoxes
+firm-constant-requires c κs =
     let p = c .before .before .pre in
-    let m = inside-at 3 (c .match .keys4) (p .1 .1 .1) in (p .0, (p .1 .0, (m .year, m .first)))
+    let m = member-at _ 3 (c .match .keys4) (p .1 .1) in (p .0, (p .1 .0, (m .1, m .2)))
 
 stock-constant-requires : tie.Need-stock-constant-requires
-unfolding familyOf
-stock-constant-requires c κs = 
+unfolding rowBoxes
+stock-constant-requires c κs =
     let p = c .before .before .pre in
-    let m = inside-at 11 (c .match .keys12) (p .1 .1 .1) in (p .0, (m .year, m .first))
+    let m = member-at _ 11 (c .match .keys5) (p .1 .1) in (p .0, (m .1, m .2))
 
 new-capacity-constant-requires : tie.Need-new-capacity-constant-requires
-unfolding familyOf
-new-capacity-constant-requires c κs = 
+unfolding rowBoxes
+new-capacity-constant-requires c κs =
     let p = c .before .before .pre in
-    let m = inside-at 14 (c .match .keys15) (p .1 .1 .1) in (p .0, m .first)
+    let m = member-at _ 14 (c .match .keys6) (p .1 .1) in (p .0, m .2)
 
 yearly-build-constant-requires : tie.Need-yearly-build-constant-requires
-unfolding familyOf
-yearly-build-constant-requires c κs = 
+unfolding rowBoxes
+yearly-build-constant-requires c κs =
     let p = c .before .before .pre in
-    let m = inside-at 15 (c .match .keys16) (p .1 .1 .1) in (p .0, (m .year, m .first))
+    let m = member-at _ 15 (c .match .keys7) (p .1 .1) in (p .0, (m .1, m .2))
 
 fuel-use-constant-requires : tie.Need-fuel-use-constant-requires
-unfolding familyOf
-fuel-use-constant-requires c κs = 
+unfolding rowBoxes
+fuel-use-constant-requires c κs =
     let p = c .before .before .pre in
-    let m = inside-at 16 (c .match .keys17) (p .1 .1 .1) in (p .0, (m .year, m .second))
+    let m = member-at _ 16 (c .match .keys8) (p .1 .1) in (p .0, (m .1, m .3))
 
 capital-constant-requires : tie.Need-capital-constant-requires
 capital-constant-requires c κs = search needs
 
 zone-emission-constant-requires : tie.Need-zone-emission-constant-requires
-unfolding familyOf
-zone-emission-constant-requires c κs = 
+unfolding rowBoxes
+zone-emission-constant-requires c κs =
     let p = c .before .before .pre in
-    let m = inside-at 18 (c .match .keys19) (p .1 .1 .1) in (p .0, (m .year, m .first))
+    let m = member-at _ 18 (c .match .keys10) (p .1 .1) in (p .0, (m .1, m .2))
 
 system-emission-constant-requires : tie.Need-system-emission-constant-requires
-unfolding familyOf
-system-emission-constant-requires c κs = 
+unfolding rowBoxes
+system-emission-constant-requires c κs =
     let p = c .before .before .pre in
-    let m = inside-at _ (last-arm (familyCount - 1) (p .1 .1 .0) (c .match .rest)) (p .1 .1 .1) in (p .0, m .year)
+    let m = member-at _ 19 (c .match .keys11) (p .1 .1) in (p .0, m .1)
 
 returns : tie.Need-returns
 unfolding constantOf
@@ -89,68 +85,36 @@ unfolding constantOf
 returns-4 c = rw (c .before .match .keys4) (c .firm-constant .ensures)
 
 returns-5 : tie.Need-returns-5
-unfolding hasConstant
-returns-5 c = rw (c .match .keys5) (without _ _ _ _ _ 4 (omega arith) refl)
+unfolding constantOf
+returns-5 c = rw (c .before .match .keys5) (c .stock-constant .ensures)
 
 returns-6 : tie.Need-returns-6
-unfolding hasConstant
-returns-6 c = rw (c .match .keys6) (without _ _ _ _ _ 5 (omega arith) refl)
+unfolding constantOf
+returns-6 c = rw (c .before .match .keys6) (c .new-capacity-constant .ensures)
 
 returns-7 : tie.Need-returns-7
-unfolding hasConstant
-returns-7 c = rw (c .match .keys7) (without _ _ _ _ _ 6 (omega arith) refl)
+unfolding constantOf
+returns-7 c = rw (c .before .match .keys7) (c .yearly-build-constant .ensures)
 
 returns-8 : tie.Need-returns-8
-unfolding hasConstant
-returns-8 c = rw (c .match .keys8) (without _ _ _ _ _ 7 (omega arith) refl)
+unfolding constantOf
+returns-8 c = rw (c .before .match .keys8) (c .fuel-use-constant .ensures)
 
 returns-9 : tie.Need-returns-9
-unfolding hasConstant
-returns-9 c = rw (c .match .keys9) (without _ _ _ _ _ 8 (omega arith) refl)
+unfolding constantOf
+returns-9 c = rw (c .before .match .keys9) (c .capital-constant .ensures)
 
 returns-10 : tie.Need-returns-10
-unfolding hasConstant
-returns-10 c = rw (c .match .keys10) (without _ _ _ _ _ 9 (omega arith) refl)
+unfolding constantOf
+returns-10 c = rw (c .before .match .keys10) (c .zone-emission-constant .ensures)
 
 returns-11 : tie.Need-returns-11
-unfolding hasConstant
-returns-11 c = rw (c .match .keys11) (without _ _ _ _ _ 10 (omega arith) refl)
+unfolding constantOf
+returns-11 c = rw (c .before .match .keys11) (c .system-emission-constant .ensures)
 
 returns-12 : tie.Need-returns-12
-unfolding constantOf
-returns-12 c = rw (c .before .match .keys12) (c .stock-constant .ensures)
-
-returns-13 : tie.Need-returns-13
-unfolding hasConstant
-returns-13 c = rw (c .match .keys13) (without _ _ _ _ _ 12 (omega arith) refl)
-
-returns-14 : tie.Need-returns-14
-unfolding hasConstant
-returns-14 c = rw (c .match .keys14) (without _ _ _ _ _ 13 (omega arith) refl)
-
-returns-15 : tie.Need-returns-15
-unfolding constantOf
-returns-15 c = rw (c .before .match .keys15) (c .new-capacity-constant .ensures)
-
-returns-16 : tie.Need-returns-16
-unfolding constantOf
-returns-16 c = rw (c .before .match .keys16) (c .yearly-build-constant .ensures)
-
-returns-17 : tie.Need-returns-17
-unfolding constantOf
-returns-17 c = rw (c .before .match .keys17) (c .fuel-use-constant .ensures)
-
-returns-18 : tie.Need-returns-18
-unfolding constantOf
-returns-18 c = rw (c .before .match .keys18) (c .capital-constant .ensures)
-
-returns-19 : tie.Need-returns-19
-unfolding constantOf
-returns-19 c = rw (c .before .match .keys19) (c .zone-emission-constant .ensures)
-
-returns-20 : tie.Need-returns-20
-unfolding constantOf
-returns-20 c = rw (last-arm (familyCount - 1) (c .before .before .before .pre .1 .1 .0) (c .before .match .rest)) (c .system-emission-constant .ensures)
+unfolding rowBoxes
+returns-12 c = let l = c .before .before .pre .1 .1 .0 in without _ _ _ _ _ _ l (without-arm _ l (c .match .rest))
 
 pub constant-at-spec : {M : Type 1} → statement M
 constant-at-spec =
@@ -178,12 +142,4 @@ constant-at-spec =
     returns-9
     returns-10
     returns-11
-    returns-12
-    returns-13
-    returns-14
-    returns-15
-    returns-16
-    returns-17
-    returns-18
-    returns-19
-    returns-20)
+    returns-12)

@@ -1,15 +1,14 @@
 use mathlib.Core.Path.{sym, _∙_}
 use Rattle.prices.specs.Costs.{hoursOf}
-use Rattle.prices.proofs.Laws.{rest-hourly, hourly-slices, hourly-hours}
+use Rattle.prices.proofs.Laws.{by-hour, rest-hourly}
 use borrow.Author.Needs.{needs}
 use Rattle.prices.proofs.column.hours_of.Statement.{statement}
 use Rattle.prices.proofs.column.hours_of.Tie as tie
 
 by-slice-requires : tie.Need-by-slice-requires
 by-slice-requires c κs =
-    let r = c .match .rest in
-    let p = c .before .before .pre in
-    let l = hourly-slices (rest-hourly _ (p .1 .0) (r .0 .0 .0 .0 .1) (r .0 .0 .0 .1) (r .0 .0 .1) (r .0 .1) (r .1)) _ (p .1 .1) in
+    let s = c .before .before in
+    let l = rw (by-hour (rest-hourly _ (s .pre .1 .0) (c .match .rest)) .own (s .args .c)) at (s .pre .1 .1) in
     search needs
 
 returns : tie.Need-returns
@@ -34,9 +33,7 @@ returns-5 c = rw (c .match .keys5)
 
 returns-6 : tie.Need-returns-6
 returns-6 c =
-    let r = c .before .match .rest in
-    let p = c .before .before .before .pre in
-    c .by-slice .ensures .0 ∙ sym (hourly-hours _ (rest-hourly _ (p .1 .0) (r .0 .0 .0 .0 .1) (r .0 .0 .0 .1) (r .0 .0 .1) (r .0 .1) (r .1)) _)
+    c .by-slice .ensures .0 ∙ sym (by-hour (rest-hourly _ (c .before .before .before .pre .1 .0) (c .before .match .rest)) .hours _ _)
 
 pub hours-of-spec : {M : Type 1} → statement M
 hours-of-spec =

@@ -2,7 +2,7 @@ use mathlib.Core.Path.{sym, ap, _∙_}
 use Rattle.capped.specs.Cap.{cap}
 use Rattle.capped.proofs.Laws.{times-cap}
 use Rattle.prices.specs.Costs.{unitPrice}
-use Rattle.prices.proofs.Laws.{rest-hourly, hourly-unit}
+use Rattle.prices.proofs.Laws.{by-hour, rest-hourly}
 use borrow.Author.Needs.{needs}
 use Rattle.prices.proofs.column.unit_price.Statement.{statement}
 use Rattle.prices.proofs.column.unit_price.Tie as tie
@@ -33,9 +33,7 @@ product-requires-2 c κs = search needs
 
 hour-price-requires : tie.Need-hour-price-requires
 hour-price-requires c κs =
-    let r = c .match .rest in
-    let p = c .before .before .before .pre in
-    (p .0, (rest-hourly _ (p .1 .0) (r .0 .0 .0 .0 .1) (r .0 .0 .0 .1) (r .0 .0 .1) (r .0 .1) (r .1), p .1 .1))
+    let p = c .before .before .before .pre in (p .0, (rest-hourly _ (p .1 .0) (c .match .rest), p .1 .1))
 
 scale-requires : tie.Need-scale-requires
 scale-requires c κs = search needs
@@ -62,10 +60,8 @@ returns-5 c = c .product2 .ensures ∙ rw (c .before .before .match .keys5, c .b
 
 returns-6 : tie.Need-returns-6
 returns-6 c =
-    let r = c .before .before .match .rest in
-    let p = c .before .before .before .before .before .pre in
-    let hourly = rest-hourly _ (p .1 .0) (r .0 .0 .0 .0 .1) (r .0 .0 .0 .1) (r .0 .0 .1) (r .0 .1) (r .1) in
-    c .scale .ensures ∙ rw (c .before .hour-price .ensures, c .before .before .before .year-weight .ensures) (times-cap _ _ ∙ ap cap (sym (hourly-unit _ hourly _ _)))
+    let hourly = rest-hourly _ (c .before .before .before .before .before .pre .1 .0) (c .before .before .match .rest) in
+    c .scale .ensures ∙ rw (c .before .hour-price .ensures, c .before .before .before .year-weight .ensures) (times-cap _ _ ∙ ap cap (sym (by-hour hourly .unit _ _ _)))
 
 pub unit-price-spec : {M : Type 1} → statement M
 unit-price-spec =

@@ -1,8 +1,8 @@
 use native.Mathlib.Omega.{arith}
 use Rattle.columns.proofs.Laws.{none-priced, add-priced, priced-as}
 use borrow.Author.Needs.{needs}
-use Rattle.columns.proofs.zones.firmshort_column.Statement.{statement}
-use Rattle.columns.proofs.zones.firmshort_column.Tie as tie
+use Rattle.columns.proofs.zones.shortfall_column.Statement.{statement}
+use Rattle.columns.proofs.zones.shortfall_column.Tie as tie
 
 none-requires : tie.Need-none-requires
 none-requires c κs = search needs
@@ -13,5 +13,5 @@ add-row-requires c κs = search needs
 returns : tie.Need-returns
 returns c = priced-as (add-priced (none-priced (c .before .none .ensures)) (c .add-row .ensures)) _ _ (λ m. omega arith) (λ m. omega arith)
 
-pub firmshort-column-spec : {M : Type 1} → statement M
-firmshort-column-spec = tie.close (tie.spec none-requires add-row-requires returns)
+pub shortfall-column-spec : {M : Type 1} → statement M
+shortfall-column-spec = tie.close (tie.spec none-requires add-row-requires returns)
