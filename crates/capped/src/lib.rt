@@ -1,16 +1,16 @@
 // Capped sums: a sum of natural numbers that is exact up to 2^62 - 1, or known to be above it.
 //
-// The crates above hold a `Sum`, and never match on one: they add to it, compare it, and ask for its value by the functions below.
+// The crates above hold a `Sum`, and never match on one: they add to it by the functions below, and compare it and ask for its value by those of `compared`.
 // Each function says its result by one equation over `specs/Cap.antt`, for every input; `proofs/Laws.antt` has the laws that callers cite.
 ghost use mathlib.Core.Path.{_≡_};
 ghost use mathlib.Core.Bool.{_&&_};
 ghost use Prim.Native.Nat.{_+_, _*_};
 ghost use lib.Dec.{leb};
 ghost use Rattle.capped.specs.declared.Sum.the-variants.{Exact};
-ghost use Rattle.capped.specs.Cap.{half, cap, plus, plusIf, both, times, timesBoth, order, over, told, keptAs, keptSum, netOf};
+ghost use Rattle.capped.specs.Cap.{half, cap, plus, plusIf, both, times, timesBoth, keptAs, keptSum};
 
 // The largest total that a capped sum holds, 2^62 - 1: `limit` in the specs.
-const LIMIT: u64 = 0x3fff_ffff_ffff_ffff;
+pub const LIMIT: u64 = 0x3fff_ffff_ffff_ffff;
 
 // The largest number whose square is at most the limit: `half` in the specs, since it has half the bits.
 const HALF: u64 = 0x7fff_ffff;
@@ -22,27 +22,6 @@ pub enum Sum {
 
 // A sum as it is stored in an array, since an array of enums cannot be lent. Its form is known to this crate alone: `keep` makes one, `sum_kept` reads the sum back.
 pub type Kept = [u64; 1];
-
-// What a sum comes to.
-pub enum Amount {
-    Exactly(u64),
-    Above,
-}
-
-// How two sums compare. Of two that are over nothing is known.
-pub enum Order {
-    Less,
-    Equal,
-    Greater,
-    Unknown,
-}
-
-// What is left when one sum is taken from others. It may be above the limit.
-pub enum Balance {
-    Is(u64),
-    BelowZero,
-    Unsure,
-}
 
 pub fn zero() -> Sum
     ensures { λ r. ⌜ r ≡ cap 0 ⌝ }
@@ -162,92 +141,6 @@ pub fn add_product3(s: Sum, a: u64, b: u64, c: u64) -> Sum
     ensures { λ r. ⌜ r ≡ plus s (a * b * c) ⌝ }
 {
     join(s, scale(product(a, b), c))
-}
-
-fn rank(v: u64, w: u64) -> Order
-    ensures { λ r. ⌜ r ≡ order (Exact v) (Exact w) ⌝ }
-{
-    if v < w {
-        return Order::Less;
-    }
-    if w < v {
-        return Order::Greater;
-    }
-    Order::Equal
-}
-
-// By number where both are exact; an exact sum is less than one that is over.
-pub fn compare(s: Sum, t: Sum) -> Order
-    ensures { λ r. ⌜ r ≡ order s t ⌝ }
-{
-    match s {
-        Sum::Exact(v) => match t {
-            Sum::Exact(w) => rank(v, w),
-            Sum::Over => Order::Less,
-        },
-        Sum::Over => match t {
-            Sum::Exact(_) => Order::Greater,
-            Sum::Over => Order::Unknown,
-        },
-    }
-}
-
-pub fn is_over(s: Sum) -> bool
-    ensures { λ r. ⌜ r ≡ over s ⌝ }
-{
-    match s {
-        Sum::Exact(_) => false,
-        Sum::Over => true,
-    }
-}
-
-pub fn value(s: Sum) -> Amount
-    ensures { λ r. ⌜ r ≡ told s ⌝ }
-{
-    match s {
-        Sum::Exact(v) => Amount::Exactly(v),
-        Sum::Over => Amount::Above,
-    }
-}
-
-fn subtract(a: u64, b: u64, c: u64) -> Balance
-    ensures { λ r. ⌜ r ≡ netOf (Exact a) (Exact b) (Exact c) ⌝ }
-{
-    // As in `add`: with both at most the limit, `a + b` cannot wrap.
-    if a > LIMIT {
-        return Balance::Unsure;
-    }
-    if b > LIMIT {
-        return Balance::Unsure;
-    }
-    let total = a + b;
-    if total < c {
-        return Balance::BelowZero;
-    }
-    Balance::Is(total - c)
-}
-
-// a + b - c, where all three are exact. The sum of two exact sums is held even where it is above the limit.
-pub fn net(a: Sum, b: Sum, c: Sum) -> Balance
-    ensures { λ r. ⌜ r ≡ netOf a b c ⌝ }
-{
-    let Sum::Exact(x) = a else {
-        return Balance::Unsure;
-    };
-    let Sum::Exact(y) = b else {
-        return Balance::Unsure;
-    };
-    let Sum::Exact(z) = c else {
-        return Balance::Unsure;
-    };
-    subtract(x, y, z)
-}
-
-// s - t
-pub fn difference(s: Sum, t: Sum) -> Balance
-    ensures { λ r. ⌜ r ≡ netOf s (cap 0) t ⌝ }
-{
-    net(s, zero(), t)
 }
 
 pub fn keep(s: Sum) -> Kept

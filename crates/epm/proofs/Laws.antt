@@ -6,9 +6,10 @@ use borrow.Author.Tests.{leb-true, eqb-true, le-leb, lt-leb}
 use lib.IntN.{ℤ}
 use lib.ListN.{length}
 use mathlib.Core.List.{List}
-use Rattle.capped.specs.declared.Amount.the-variants.{Exactly, Above}
-use Rattle.capped.specs.Cap.{limit, cap, told}
-use Rattle.capped.proofs.Laws.{told-exactly, told-above}
+use Rattle.compared.specs.declared.Amount.the-variants.{Exactly, Above}
+use Rattle.capped.specs.Cap.{limit, cap}
+use Rattle.compared.specs.Compared.{told}
+use Rattle.compared.proofs.Laws.{told-exactly, told-above}
 use Rattle.sums.specs.Span.{Fault, fine, fault, orElse}
 use Rattle.sums.specs.Index.{Index, start, count}
 use Rattle.model.specs.declared.Answer.{Answer}

@@ -1,8 +1,8 @@
 // The published calls: check, certify and post. Each takes any lists, and answers on every input. Its contract says the answer in document 01's
 // number and values (`answerCode`, `certificateCode`), and as the case of the enum that callers match on.
 use boards::put_after;
-use capped::Amount;
 use certificates::issue;
+use compared::Amount;
 use data_tests::counts_of;
 use data_tests::test_data;
 use energy::totals::ENERGY_COUNT;
@@ -40,7 +40,7 @@ fn price(data: &[u32], scale: u32, plan: &[u32], tables_at: &Starts, columns_at:
         Outcome::Fails(r) => return Answer::Refused(r),
         Outcome::Fine => {}
     }
-    match capped::value(cost_of(data, plan, tables_at, columns_at, c)) {
+    match compared::value(cost_of(data, plan, tables_at, columns_at, c)) {
         Amount::Exactly(cost) => Answer::Accepted(cost),
         Amount::Above => Answer::Refused(Refusal::CostOffScale),
     }

@@ -9,9 +9,10 @@ use lib.IntN.{ℤ}
 use lib.ListN.{length, getD}
 use borrow.Author.Tests.{leb-true, leb-false}
 use Rattle.capped.specs.declared.Sum.{Sum}
-use Rattle.capped.specs.declared.Balance.the-variants.{Is}
+use Rattle.compared.specs.declared.Balance.the-variants.{Is}
 use Rattle.capped.specs.Cap.{limit, cap}
-use Rattle.capped.proofs.Laws.{both-cap, le-difference}
+use Rattle.capped.proofs.Laws.{both-cap}
+use Rattle.compared.proofs.Laws.{le-difference}
 use Rattle.sums.specs.declared.Box.{Box}
 use Rattle.sums.specs.Span.{fault, orElse}
 use Rattle.sums.specs.Index.{Index, index, boxOf, Member}

@@ -3,7 +3,8 @@ use mathlib.Core.List.{List}
 use Prim.Native.Nat.{ℕ, _+_}
 use lib.IntN.{ℤ}
 use Rattle.capped.specs.declared.Sum.{Sum}
-use Rattle.capped.specs.Cap.{cap, both, told, netOf}
+use Rattle.capped.specs.Cap.{cap, both}
+use Rattle.compared.specs.Compared.{told, netOf}
 use Rattle.sums.specs.Index.{Index, index}
 use Rattle.model.specs.Data.{Data}
 use Rattle.model.specs.Prices.{price}

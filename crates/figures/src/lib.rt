@@ -1,10 +1,10 @@
 // The figures behind a refusal: the sums of a row, the sums and the price of a column, an entry and its range.
 // Each by the place that `places` finds, for lists that passed the refusals before.
-use capped::Amount;
-use capped::Balance;
 use capped::Sum;
 use columns::Pair;
 use columns::column_sums;
+use compared::Amount;
+use compared::Balance;
 use data_tests::counts_of;
 use duals::RowStarts;
 use duals::row_starts;
@@ -31,7 +31,7 @@ use tables::starts::table_starts;
 ghost use mathlib.Core.Path.{_≡_};
 ghost use Prim.Native.Nat.{ℕ, _+_, _-_, _<_};
 ghost use lib.ListN.{length, getD};
-ghost use Rattle.capped.specs.declared.Balance.the-variants.{Is};
+ghost use Rattle.compared.specs.declared.Balance.the-variants.{Is};
 ghost use Rattle.sums.specs.Span.{fine, fault, orElse};
 ghost use Rattle.sums.specs.Index.{count, Member, indexOf};
 ghost use Rattle.model.specs.declared.Refusal.the-variants.{Underpriced};
@@ -72,7 +72,7 @@ fn told_sides(sides: Sides) -> RowFigures
 {
     let above = sides.above;
     let below = sides.below;
-    RowFigures { above: capped::value(above), below: capped::value(below) }
+    RowFigures { above: compared::value(above), below: compared::value(below) }
 }
 
 // The two sums of the row at a place.
@@ -106,10 +106,10 @@ fn told_pair(sums: Pair, charged: Sum) -> ColumnFigures
     let up = sums.up;
     let down = sums.down;
     ColumnFigures {
-        up: capped::value(up),
-        down: capped::value(down),
-        price: capped::value(charged),
-        short: capped::difference(up, capped::join(charged, down)),
+        up: compared::value(up),
+        down: compared::value(down),
+        price: compared::value(charged),
+        short: compared::difference(up, capped::join(charged, down)),
     }
 }
 

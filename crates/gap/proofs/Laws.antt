@@ -11,9 +11,11 @@ use lib.IntN.{ℤ, pos}
 use lib.ListN.{getD}
 use borrow.Author.Tests.{le-leb, ltb-true}
 use Rattle.capped.specs.declared.Sum.{Sum}
-use Rattle.capped.specs.declared.Balance.the-variants.{Unsure}
-use Rattle.capped.specs.Cap.{limit, cap, times, minus, netOf}
-use Rattle.capped.proofs.Laws.{plus-cap, times-cap, net-cap}
+use Rattle.compared.specs.declared.Balance.the-variants.{Unsure}
+use Rattle.capped.specs.Cap.{limit, cap, times}
+use Rattle.compared.specs.Compared.{minus, netOf}
+use Rattle.capped.proofs.Laws.{plus-cap, times-cap}
+use Rattle.compared.proofs.Laws.{net-cap}
 use Rattle.sums.specs.declared.Box.{Box}
 use Rattle.sums.specs.Sum.{sum}
 use Rattle.sums.specs.Index.{Index, index, boxOf, number, Member}

@@ -4,8 +4,8 @@ use mathlib.Core.List.{List}
 use Prim.Native.Nat.{ℕ, _+_, _*_, _-_}
 use lib.IntN.{ℤ}
 use Rattle.capped.specs.Cap.{cap, plus}
-use Rattle.capped.specs.declared.Balance.{Balance}
-use Rattle.capped.specs.declared.Balance.the-variants.{Is, BelowZero, Unsure}
+use Rattle.compared.specs.declared.Balance.{Balance}
+use Rattle.compared.specs.declared.Balance.the-variants.{Is, BelowZero, Unsure}
 use Rattle.sums.specs.declared.Box.{Box}
 use Rattle.sums.specs.Index.{Index, box, boxOf}
 use Rattle.model.specs.declared.Counts.{Counts}

@@ -1,6 +1,6 @@
 // The gap of a certificate, cost + N·Σ m·k, and refusal 13.
-use capped::Balance;
 use capped::Sum;
+use compared::Balance;
 use constants::Constant;
 use constants::families::constant_at;
 use constants::families::has_constant;
@@ -19,7 +19,8 @@ use tables::sets::family_at;
 use tables::starts::Starts;
 ghost use mathlib.Core.Path.{_≡_};
 ghost use Prim.Native.Nat.{_≤_, _<_};
-ghost use Rattle.capped.specs.Cap.{limit, cap, netOf};
+ghost use Rattle.capped.specs.Cap.{limit, cap};
+ghost use Rattle.compared.specs.Compared.{netOf};
 ghost use Rattle.sums.specs.Span.{fine};
 ghost use Rattle.sums.specs.Index.{indexOf, Member};
 ghost use Rattle.model.specs.Data.{read};
@@ -99,7 +100,7 @@ pub fn constant_terms(data: &[u32], ms: &[i64], tables_at: &Starts, rows_at: &Ro
 fn certificate_of(cost: u64, up: Sum, down: Sum) -> Certificate
     ensures { λ r. ⌜ r ≡ settled cost (netOf (cap cost) up down) ⌝ }
 {
-    let left = capped::net(capped::of(cost), up, down);
+    let left = compared::net(capped::of(cost), up, down);
     match left {
         Balance::Is(gap) => Certificate::Issued(cost, gap),
         // Never reached where the plan passed: it is a rival of its own, so the gap is not below zero (`WholeGap`).

@@ -10,9 +10,11 @@ use lib.Dec.{leb}
 use lib.IntN.{ℤ}
 use borrow.Author.Tests.{le-ltb, lt-ltb, le-leb, lt-leb}
 use Rattle.capped.specs.declared.Sum.{Sum}
-use Rattle.capped.specs.declared.Order.{Order}
-use Rattle.capped.specs.Cap.{limit, cap, both, times, over, order}
-use Rattle.capped.proofs.Laws.{over-cap, lt-order, eq-order, gt-order, le-or-lt, both-cap}
+use Rattle.compared.specs.declared.Order.{Order}
+use Rattle.capped.specs.Cap.{limit, cap, both, times}
+use Rattle.compared.specs.Compared.{over, order}
+use Rattle.capped.proofs.Laws.{le-or-lt, both-cap}
+use Rattle.compared.proofs.Laws.{over-cap, lt-order, eq-order, gt-order}
 use Rattle.sums.specs.Span.{orElse}
 use Rattle.sums.specs.declared.Place.{Place}
 use Rattle.sums.specs.Index.{indexOf}

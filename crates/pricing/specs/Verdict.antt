@@ -2,9 +2,10 @@
 use mathlib.Core.Bool.{cond, _||_}
 use Prim.Native.Nat.{ℕ}
 use Rattle.capped.specs.declared.Sum.{Sum}
-use Rattle.capped.specs.declared.Order.{Order}
-use Rattle.capped.specs.declared.Order.the-variants.{Less, Equal, Greater, Unknown}
-use Rattle.capped.specs.Cap.{both, over, order}
+use Rattle.compared.specs.declared.Order.{Order}
+use Rattle.compared.specs.declared.Order.the-variants.{Less, Equal, Greater, Unknown}
+use Rattle.capped.specs.Cap.{both}
+use Rattle.compared.specs.Compared.{over, order}
 use Rattle.model.specs.declared.Outcome.{Outcome}
 use Rattle.model.specs.declared.Outcome.the-variants.{Fine, Fails}
 use Rattle.model.specs.declared.Refusal.the-variants.{ColumnOffScale, Underpriced}

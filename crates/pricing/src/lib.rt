@@ -1,8 +1,8 @@
 // The walk over all columns, in the order of the plan, left at the first that is off scale or underpriced: refusals 11 and 12.
-use capped::Order;
 use capped::Sum;
 use columns::Pair;
 use columns::column_sums;
+use compared::Order;
 use duals::RowStarts;
 use model::Counts;
 use model::KIND_COUNT;
@@ -15,7 +15,8 @@ use tables::starts::Starts;
 use tables::starts::column_box;
 ghost use mathlib.Core.Path.{_≡_};
 ghost use mathlib.Core.Bool.{_||_};
-ghost use Rattle.capped.specs.Cap.{cap, over};
+ghost use Rattle.capped.specs.Cap.{cap};
+ghost use Rattle.compared.specs.Compared.{over};
 ghost use Rattle.sums.specs.Index.{indexOf, number, Member};
 ghost use Rattle.model.specs.Data.{read};
 ghost use Rattle.model.specs.Columns.{columnBoxes};
@@ -31,10 +32,10 @@ fn off_scale(sums: Pair) -> bool
 {
     let up = sums.up;
     let down = sums.down;
-    if capped::is_over(up) {
+    if compared::is_over(up) {
         return true;
     }
-    capped::is_over(down)
+    compared::is_over(down)
 }
 
 // 11 where a sum is over the limit, else 12 where the terms above zero exceed the price and the terms below.
@@ -46,7 +47,7 @@ fn verdict(sums: Pair, price: Sum, column: usize) -> Outcome
     }
     let up = sums.up;
     let down = sums.down;
-    match capped::compare(up, capped::join(price, down)) {
+    match compared::compare(up, capped::join(price, down)) {
         Order::Less => Outcome::Fine,
         Order::Equal => Outcome::Fine,
         Order::Greater => Outcome::Fails(Refusal::Underpriced(column)),

@@ -7,9 +7,11 @@ use native.Mathlib.Nat.{eq-or-lt-of-le}
 use native.Mathlib.Omega.{arith}
 use lib.Dec.{leb}
 use borrow.Author.Tests.{eq-eqb, ne-eqb, le-ltb, lt-ltb, le-leb, lt-leb}
-use Rattle.capped.specs.declared.Order.{Order}
-use Rattle.capped.specs.Cap.{limit, cap, over, order}
-use Rattle.capped.proofs.Laws.{over-cap, lt-order, eq-order, gt-order, le-or-lt}
+use Rattle.compared.specs.declared.Order.{Order}
+use Rattle.capped.specs.Cap.{limit, cap}
+use Rattle.compared.specs.Compared.{over, order}
+use Rattle.capped.proofs.Laws.{le-or-lt}
+use Rattle.compared.proofs.Laws.{over-cap, lt-order, eq-order, gt-order}
 use Rattle.sums.specs.Span.{orElse}
 use Rattle.sums.specs.Index.{Index}
 use Rattle.model.specs.declared.Outcome.{Outcome}

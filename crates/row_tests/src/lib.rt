@@ -1,5 +1,5 @@
 // The walk over all rows, in document 01's order, left at the first row not met: refusals 6 and 7.
-use capped::Order;
+use compared::Order;
 use energy::totals::EnergyTable;
 use model::Counts;
 use model::FAMILY_COUNT;
@@ -33,13 +33,13 @@ fn verdict(sides: Sides, equal: bool, row: usize) -> Outcome
 {
     let above = sides.above;
     let below = sides.below;
-    if capped::is_over(above) {
+    if compared::is_over(above) {
         return Outcome::Fails(Refusal::RowOffScale(row));
     }
-    if capped::is_over(below) {
+    if compared::is_over(below) {
         return Outcome::Fails(Refusal::RowOffScale(row));
     }
-    match capped::compare(below, above) {
+    match compared::compare(below, above) {
         Order::Less => {
             if equal {
                 return Outcome::Fails(Refusal::Broken(row));

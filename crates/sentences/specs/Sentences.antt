@@ -6,10 +6,10 @@ use Prim.Native.String.{String}
 use lib.Dec.{ltb}
 use lib.IntN.{ℤ, pos}
 use lib.ListN.{getD}
-use Rattle.capped.specs.declared.Amount.{Amount}
-use Rattle.capped.specs.declared.Amount.the-variants.{Exactly, Above}
-use Rattle.capped.specs.declared.Balance.{Balance}
-use Rattle.capped.specs.declared.Balance.the-variants.{Is, BelowZero, Unsure}
+use Rattle.compared.specs.declared.Amount.{Amount}
+use Rattle.compared.specs.declared.Amount.the-variants.{Exactly, Above}
+use Rattle.compared.specs.declared.Balance.{Balance}
+use Rattle.compared.specs.declared.Balance.the-variants.{Is, BelowZero, Unsure}
 use Rattle.sums.specs.Index.{Index, index}
 use Rattle.model.specs.declared.Counts.{Counts}
 use Rattle.model.specs.Data.{Data, tableBoxes, mostCounts}

@@ -1,6 +1,6 @@
 // Figures in words.
-use capped::Amount;
-use capped::Balance;
+use compared::Amount;
+use compared::Balance;
 use duals::Multiplier;
 use writer::ROOM;
 use writer::say;

@@ -1,5 +1,5 @@
 use mathlib.Core.Path.{refl, sym, _∙_}
-use Rattle.capped.specs.declared.Order.the-variants.{Less, Equal, Greater, Unknown}
+use Rattle.compared.specs.declared.Order.the-variants.{Less, Equal, Greater, Unknown}
 use Rattle.pricing.proofs.Verdicts.{off-scale, on-scale}
 use borrow.Author.Needs.{needs}
 use Rattle.pricing.proofs.verdict.Statement.{statement}

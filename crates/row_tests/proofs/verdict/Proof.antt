@@ -1,5 +1,5 @@
 use mathlib.Core.Path.{refl, sym, _∙_}
-use Rattle.capped.specs.declared.Order.the-variants.{Less, Equal, Greater, Unknown}
+use Rattle.compared.specs.declared.Order.the-variants.{Less, Equal, Greater, Unknown}
 use Rattle.row_tests.proofs.Verdicts.{above-over, below-over, neither-over}
 use borrow.Author.Needs.{needs}
 use Rattle.row_tests.proofs.verdict.Statement.{statement}
