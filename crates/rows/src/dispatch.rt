@@ -71,10 +71,7 @@ pub fn loading(
 }
 
 // 6 (23): 1000·reserve ≤ ResOffer·cap
-pub fn offer(
-    data: &[u32], plan: &[u32], reserves: &[u32], tables_at: &Starts, columns_at: &Starts, c: Counts, y: usize, g: usize,
-    s: usize,
-) -> Sides
+pub fn offer(data: &[u32], plan: &[u32], reserves: &[u32], tables_at: &Starts, columns_at: &Starts, c: Counts, y: usize, g: usize, s: usize) -> Sides
     requires { ⌜ (TablesAt (now «data») (now «tables_at») c × (ColumnsAt (now plan) (now «columns_at») c × YearPart (now plan) (now reserves) c 4 y)) × ((y < c .years) × ((g < c .plants) × (s < slicesOf c))) ⌝ }
     ensures { λ r. ⌜ ((N : ℕ) → r ≡ sidesOf (read (now («data» .entry))) N (planEntry c (now (plan .entry))) (row 6 y g 0 s)) ⌝ }
 {
@@ -86,10 +83,7 @@ pub fn offer(
 }
 
 // 7 (24), t > 0: 1000·(gen[s−1] − gen[s]) ≤ RampDn·cap
-pub fn ramp_down(
-    data: &[u32], plan: &[u32], outputs: &[u32], tables_at: &Starts, columns_at: &Starts, c: Counts, y: usize, g: usize,
-    s: usize,
-) -> Sides
+pub fn ramp_down(data: &[u32], plan: &[u32], outputs: &[u32], tables_at: &Starts, columns_at: &Starts, c: Counts, y: usize, g: usize, s: usize) -> Sides
     requires { ⌜ (TablesAt (now «data») (now «tables_at») c × (ColumnsAt (now plan) (now «columns_at») c × YearPart (now plan) (now outputs) c 3 y)) × ((y < c .years) × ((g < c .plants) × (s < slicesOf c))) ⌝ }
     ensures { λ r. ⌜ ((N : ℕ) → r ≡ sidesOf (read (now («data» .entry))) N (planEntry c (now (plan .entry))) (row 7 y g 0 s)) ⌝ }
 {
@@ -101,10 +95,7 @@ pub fn ramp_down(
 }
 
 // 8 (25), t > 0: 1000·(gen[s] − gen[s−1]) ≤ RampUp·cap
-pub fn ramp_up(
-    data: &[u32], plan: &[u32], outputs: &[u32], tables_at: &Starts, columns_at: &Starts, c: Counts, y: usize, g: usize,
-    s: usize,
-) -> Sides
+pub fn ramp_up(data: &[u32], plan: &[u32], outputs: &[u32], tables_at: &Starts, columns_at: &Starts, c: Counts, y: usize, g: usize, s: usize) -> Sides
     requires { ⌜ (TablesAt (now «data») (now «tables_at») c × (ColumnsAt (now plan) (now «columns_at») c × YearPart (now plan) (now outputs) c 3 y)) × ((y < c .years) × ((g < c .plants) × (s < slicesOf c))) ⌝ }
     ensures { λ r. ⌜ ((N : ℕ) → r ≡ sidesOf (read (now («data» .entry))) N (planEntry c (now (plan .entry))) (row 8 y g 0 s)) ⌝ }
 {
@@ -116,9 +107,7 @@ pub fn ramp_up(
 }
 
 // 1000·(gen[high] − gen[low]) ≤ rate·cap: how far the output of one slice may lie above that of another.
-fn ramp(
-    plan: &[u32], outputs: &[u32], columns_at: &Starts, c: Counts, rate: u64, y: usize, g: usize, high: usize, low: usize,
-) -> Sides
+fn ramp(plan: &[u32], outputs: &[u32], columns_at: &Starts, c: Counts, rate: u64, y: usize, g: usize, high: usize, low: usize) -> Sides
     requires { ⌜ (Counted c × (ColumnsAt (now plan) (now «columns_at») c × YearPart (now plan) (now outputs) c 3 y)) × ((y < c .years) × ((g < c .plants) × ((high < slicesOf c) × (low < slicesOf c)))) ⌝ }
     ensures { λ r. ⌜ r ≡ sides (rate * planEntry c (now (plan .entry)) (capColumn y g) + 1000 * planEntry c (now (plan .entry)) (gen y g low)) (1000 * planEntry c (now (plan .entry)) (gen y g high)) ⌝ }
 {
@@ -130,10 +119,7 @@ fn ramp(
 }
 
 // 9 (26), minimum-load days: 1000·gen ≥ MinCapFac·cap
-pub fn minimum_load(
-    data: &[u32], plan: &[u32], outputs: &[u32], tables_at: &Starts, columns_at: &Starts, c: Counts, y: usize, g: usize,
-    s: usize,
-) -> Sides
+pub fn minimum_load(data: &[u32], plan: &[u32], outputs: &[u32], tables_at: &Starts, columns_at: &Starts, c: Counts, y: usize, g: usize, s: usize) -> Sides
     requires { ⌜ (TablesAt (now «data») (now «tables_at») c × (ColumnsAt (now plan) (now «columns_at») c × YearPart (now plan) (now outputs) c 3 y)) × ((y < c .years) × ((g < c .plants) × (s < slicesOf c))) ⌝ }
     ensures { λ r. ⌜ ((N : ℕ) → r ≡ sidesOf (read (now («data» .entry))) N (planEntry c (now (plan .entry))) (row 9 y g 0 s)) ⌝ }
 {
@@ -169,10 +155,7 @@ pub fn available(
 }
 
 // 11 (28), VRE: 1000·gen ≤ Profile·cap
-pub fn profiled(
-    data: &[u32], plan: &[u32], outputs: &[u32], tables_at: &Starts, columns_at: &Starts, c: Counts, y: usize, g: usize,
-    s: usize,
-) -> Sides
+pub fn profiled(data: &[u32], plan: &[u32], outputs: &[u32], tables_at: &Starts, columns_at: &Starts, c: Counts, y: usize, g: usize, s: usize) -> Sides
     requires { ⌜ (TablesAt (now «data») (now «tables_at») c × (ColumnsAt (now plan) (now «columns_at») c × YearPart (now plan) (now outputs) c 3 y)) × ((y < c .years) × ((g < c .plants) × (s < slicesOf c))) ⌝ }
     ensures { λ r. ⌜ ((N : ℕ) → r ≡ sidesOf (read (now («data» .entry))) N (planEntry c (now (plan .entry))) (row 11 y g 0 s)) ⌝ }
 {

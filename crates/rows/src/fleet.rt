@@ -43,9 +43,7 @@ ghost use Rattle.energy.specs.Energies.{Energies, energyCount};
 ghost use Rattle.rows.specs.Ready.{sidesOf};
 
 // 12 (34): existing, first year: cap = GenCap; later: cap = earlier cap − retire. Candidate: cap = earlier cap (0 in the first year) + build
-pub fn stock(
-    data: &[u32], plan: &[u32], tables_at: &Starts, columns_at: &Starts, c: Counts, scale: u64, y: usize, g: usize,
-) -> Sides
+pub fn stock(data: &[u32], plan: &[u32], tables_at: &Starts, columns_at: &Starts, c: Counts, scale: u64, y: usize, g: usize) -> Sides
     requires { ⌜ (TablesAt (now «data») (now «tables_at») c × ColumnsAt (now plan) (now «columns_at») c) × ((y < c .years) × (g < c .plants)) ⌝ }
     ensures { λ r. ⌜ r ≡ sidesOf (read (now («data» .entry))) scale (planEntry c (now (plan .entry))) (row 12 y g 0 0) ⌝ }
 {
@@ -123,9 +121,7 @@ pub fn new_capacity(data: &[u32], plan: &[u32], tables_at: &Starts, columns_at: 
 }
 
 // 16 (58), candidate: build ≤ BuildLimit·V
-pub fn yearly_build(
-    data: &[u32], plan: &[u32], tables_at: &Starts, columns_at: &Starts, c: Counts, scale: u64, y: usize, g: usize,
-) -> Sides
+pub fn yearly_build(data: &[u32], plan: &[u32], tables_at: &Starts, columns_at: &Starts, c: Counts, scale: u64, y: usize, g: usize) -> Sides
     requires { ⌜ (TablesAt (now «data») (now «tables_at») c × ColumnsAt (now plan) (now «columns_at») c) × ((y < c .years) × (g < c .plants)) ⌝ }
     ensures { λ r. ⌜ r ≡ sidesOf (read (now («data» .entry))) scale (planEntry c (now (plan .entry))) (row 16 y g 0 0) ⌝ }
 {
