@@ -1,7 +1,6 @@
 // The columns under the multipliers: Σ m·a of each column, over the rows that it stands in, positive and negative terms apart.
 pub mod capacity;
 pub mod dispatch;
-pub mod families;
 pub mod pairs;
 pub mod readers;
 pub mod zones;
@@ -13,11 +12,20 @@ use capped::Sum;
 use dispatch::gen_column;
 use dispatch::reserve_column;
 use duals::RowStarts;
-use families::BALANCE;
-use families::FIRM;
-use families::SPINNING;
 use model::Counts;
 use sums::Place;
+use tables::families::BALANCE;
+use tables::families::FIRM;
+use tables::families::SPINNING;
+use tables::names::BUILD;
+use tables::names::CAP;
+use tables::names::GEN;
+use tables::names::RESERVE;
+use tables::names::RETIRE;
+use tables::names::SPINSHORT;
+use tables::names::SURPLUS;
+use tables::names::TRANS;
+use tables::names::UNMET;
 use tables::starts::Starts;
 use zones::shortfall_column;
 use zones::surplus_column;
@@ -41,17 +49,15 @@ pub fn column_sums(data: &[u32], ms: &[i64], tables_at: &Starts, rows_at: &RowSt
 {
     let k = p.kind;
     match k {
-        0 => cap_column(data, ms, tables_at, rows_at, c, p.year, p.first),
-        1 => build_column(data, ms, tables_at, rows_at, c, p.year, p.first),
-        2 => retire_column(data, ms, tables_at, rows_at, c, p.year, p.first),
-        3 => gen_column(data, ms, tables_at, rows_at, c, p.year, p.first, p.slice),
-        4 => reserve_column(data, ms, tables_at, rows_at, c, p.year, p.first, p.slice),
-        5 => trans_column(data, ms, tables_at, rows_at, c, p.year, p.first, p.second, p.slice),
-        // unmet
-        6 => shortfall_column(ms, rows_at, c, BALANCE, p.year, p.first, p.slice),
-        7 => surplus_column(ms, rows_at, c, p.year, p.first, p.slice),
-        // spinshort
-        8 => shortfall_column(ms, rows_at, c, SPINNING, p.year, p.first, p.slice),
+        CAP => cap_column(data, ms, tables_at, rows_at, c, p.year, p.first),
+        BUILD => build_column(data, ms, tables_at, rows_at, c, p.year, p.first),
+        RETIRE => retire_column(data, ms, tables_at, rows_at, c, p.year, p.first),
+        GEN => gen_column(data, ms, tables_at, rows_at, c, p.year, p.first, p.slice),
+        RESERVE => reserve_column(data, ms, tables_at, rows_at, c, p.year, p.first, p.slice),
+        TRANS => trans_column(data, ms, tables_at, rows_at, c, p.year, p.first, p.second, p.slice),
+        UNMET => shortfall_column(ms, rows_at, c, BALANCE, p.year, p.first, p.slice),
+        SURPLUS => surplus_column(ms, rows_at, c, p.year, p.first, p.slice),
+        SPINSHORT => shortfall_column(ms, rows_at, c, SPINNING, p.year, p.first, p.slice),
         // firmshort
         _ => shortfall_column(ms, rows_at, c, FIRM, p.year, p.first, p.slice),
     }

@@ -1,8 +1,5 @@
 // The columns of links and zones: trans, unmet, surplus, spinshort and firmshort.
 use crate::Pair;
-use crate::families::BALANCE;
-use crate::families::SPINNING;
-use crate::families::TRANSFER;
 use crate::pairs::add_row;
 use crate::pairs::add_row_if;
 use crate::pairs::none;
@@ -11,6 +8,9 @@ use crate::pairs::take_row_if;
 use crate::readers::delivered;
 use duals::RowStarts;
 use model::Counts;
+use tables::families::BALANCE;
+use tables::families::SPINNING;
+use tables::families::TRANSFER;
 use tables::starts::Starts;
 ghost use mathlib.Core.Path.{_≡_};
 ghost use Prim.Native.Nat.{_<_};

@@ -15,6 +15,17 @@ use crate::zones::transfer_constant;
 use model::Counts;
 use model::FAMILY_COUNT;
 use sums::Place;
+use tables::families::BALANCE;
+use tables::families::CAPITAL;
+use tables::families::FIRM;
+use tables::families::FUEL_USE;
+use tables::families::NEW_CAPACITY;
+use tables::families::SPINNING;
+use tables::families::STOCK;
+use tables::families::SYSTEM_EMISSION;
+use tables::families::TRANSFER;
+use tables::families::YEARLY_BUILD;
+use tables::families::ZONE_EMISSION;
 use tables::starts::Starts;
 ghost use mathlib.Core.Path.{_≡_};
 ghost use Prim.Native.Nat.{_<_};
@@ -33,17 +44,17 @@ pub fn constant_at(data: &[u32], tables_at: &Starts, c: Counts, p: Place) -> Con
 {
     let k = p.kind;
     match k {
-        0 => balance_constant(data, tables_at, c, p.year, p.first, p.slice),
-        1 => transfer_constant(data, tables_at, c, p.year, p.first, p.second, p.slice),
-        2 => spinning_constant(data, tables_at, c, p.year, p.first, p.slice),
-        3 => firm_constant(data, tables_at, c, p.year, p.first),
-        11 => stock_constant(data, tables_at, c, p.year, p.first),
-        14 => new_capacity_constant(data, tables_at, c, p.first),
-        15 => yearly_build_constant(data, tables_at, c, p.year, p.first),
-        16 => fuel_use_constant(data, tables_at, c, p.year, p.second),
-        17 => capital_constant(data, tables_at, c),
-        18 => zone_emission_constant(data, tables_at, c, p.year, p.first),
-        19 => system_emission_constant(data, tables_at, c, p.year),
+        BALANCE => balance_constant(data, tables_at, c, p.year, p.first, p.slice),
+        TRANSFER => transfer_constant(data, tables_at, c, p.year, p.first, p.second, p.slice),
+        SPINNING => spinning_constant(data, tables_at, c, p.year, p.first, p.slice),
+        FIRM => firm_constant(data, tables_at, c, p.year, p.first),
+        STOCK => stock_constant(data, tables_at, c, p.year, p.first),
+        NEW_CAPACITY => new_capacity_constant(data, tables_at, c, p.first),
+        YEARLY_BUILD => yearly_build_constant(data, tables_at, c, p.year, p.first),
+        FUEL_USE => fuel_use_constant(data, tables_at, c, p.year, p.second),
+        CAPITAL => capital_constant(data, tables_at, c),
+        ZONE_EMISSION => zone_emission_constant(data, tables_at, c, p.year, p.first),
+        SYSTEM_EMISSION => system_emission_constant(data, tables_at, c, p.year),
         // 5 to 11, 13 and 14
         _ => NONE,
     }
@@ -51,7 +62,26 @@ pub fn constant_at(data: &[u32], tables_at: &Starts, c: Counts, p: Place) -> Con
 
 // Whether the rows of each family have a constant, in document 01's order.
 const CONSTANT_FAMILIES: [bool; FAMILY_COUNT] = [
-    true, true, true, true, false, false, false, false, false, false, false, true, false, false, true, true, true, true, true, true,
+    true, // 1 balance
+    true, // 2 transfer
+    true, // 3 spinning
+    true, // 4 firm
+    false, // 5 loading
+    false, // 6 offer
+    false, // 7 ramp down
+    false, // 8 ramp up
+    false, // 9 minimum load
+    false, // 10 available
+    false, // 11 profiled
+    true, // 12 stock
+    false, // 13 life
+    false, // 14 fixed
+    true, // 15 new capacity
+    true, // 16 yearly build
+    true, // 17 fuel use
+    true, // 18 capital
+    true, // 19 zone emission
+    true, // 20 system emission
 ];
 
 pub fn has_constant(k: usize) -> bool

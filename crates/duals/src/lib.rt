@@ -6,6 +6,35 @@ use model::Outcome;
 use model::Refusal;
 use model::Shape;
 use sums::Place;
+use tables::families::AVAILABLE;
+use tables::families::BALANCE;
+use tables::families::CAPITAL;
+use tables::families::FIRM;
+use tables::families::FIXED;
+use tables::families::FUEL_USE;
+use tables::families::LIFE;
+use tables::families::LOADING;
+use tables::families::MINIMUM_LOAD;
+use tables::families::NEW_CAPACITY;
+use tables::families::OFFER;
+use tables::families::PROFILED;
+use tables::families::RAMP_DOWN;
+use tables::families::RAMP_UPWARD;
+use tables::families::SPINNING;
+use tables::families::STOCK;
+use tables::families::TRANSFER;
+use tables::families::YEARLY_BUILD;
+use tables::families::ZONE_EMISSION;
+use tables::sets::BY_LINK_SLICE;
+use tables::sets::BY_PLANT;
+use tables::sets::BY_YEAR;
+use tables::sets::BY_YEAR_PLANT;
+use tables::sets::BY_YEAR_PLANT_SEASON;
+use tables::sets::BY_YEAR_PLANT_SLICE;
+use tables::sets::BY_YEAR_ZONE;
+use tables::sets::BY_YEAR_ZONE_FUEL;
+use tables::sets::BY_YEAR_ZONE_SLICE;
+use tables::sets::SINGLE;
 use tables::sets::family_at;
 use tables::sets::inside_of;
 ghost use mathlib.Core.Path.{_≡_};
@@ -75,26 +104,26 @@ fn set_of(k: usize) -> usize
     ensures { λ r. ⌜ r ≡ familyOf k .set ⌝ }
 {
     match k {
-        0 => 0,
-        1 => 1,
-        2 => 0,
-        3 => 2,
-        4 => 3,
-        5 => 3,
-        6 => 3,
-        7 => 3,
-        8 => 3,
-        9 => 4,
-        10 => 3,
-        11 => 5,
-        12 => 5,
-        13 => 5,
-        14 => 6,
-        15 => 5,
-        16 => 7,
-        17 => 8,
-        18 => 2,
-        _ => 9,
+        BALANCE => BY_YEAR_ZONE_SLICE,
+        TRANSFER => BY_LINK_SLICE,
+        SPINNING => BY_YEAR_ZONE_SLICE,
+        FIRM => BY_YEAR_ZONE,
+        LOADING => BY_YEAR_PLANT_SLICE,
+        OFFER => BY_YEAR_PLANT_SLICE,
+        RAMP_DOWN => BY_YEAR_PLANT_SLICE,
+        RAMP_UPWARD => BY_YEAR_PLANT_SLICE,
+        MINIMUM_LOAD => BY_YEAR_PLANT_SLICE,
+        AVAILABLE => BY_YEAR_PLANT_SEASON,
+        PROFILED => BY_YEAR_PLANT_SLICE,
+        STOCK => BY_YEAR_PLANT,
+        LIFE => BY_YEAR_PLANT,
+        FIXED => BY_YEAR_PLANT,
+        NEW_CAPACITY => BY_PLANT,
+        YEARLY_BUILD => BY_YEAR_PLANT,
+        FUEL_USE => BY_YEAR_ZONE_FUEL,
+        CAPITAL => SINGLE,
+        ZONE_EMISSION => BY_YEAR_ZONE,
+        _ => BY_YEAR,
     }
 }
 

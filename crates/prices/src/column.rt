@@ -5,8 +5,13 @@ use crate::yearly_price;
 use model::Counts;
 use tables::entries::by_slice;
 use tables::entries::single;
+use tables::names::BUILD;
+use tables::names::CAP;
 use tables::names::DURATION;
+use tables::names::FIRMSHORT;
 use tables::names::RES_VOLL;
+use tables::names::RETIRE;
+use tables::names::TRANS;
 use tables::starts::Starts;
 use terms::plants::year_weight;
 ghost use mathlib.Core.Path.{_≡_};
@@ -26,16 +31,11 @@ pub fn unit_price(data: &[u32], tables_at: &Starts, c: Counts, k: usize, y: usiz
 {
     let share = year_weight(data, tables_at, c, y);
     match k {
-        // cap
-        0 => capped::product(share, yearly_price(data, tables_at, c, y, i)),
-        // build
-        1 => capped::zero(),
-        // retire
-        2 => capped::zero(),
-        // trans
-        5 => capped::zero(),
-        // firmshort
-        9 => capped::product(share, single(data, tables_at, c, RES_VOLL)),
+        CAP => capped::product(share, yearly_price(data, tables_at, c, y, i)),
+        BUILD => capped::zero(),
+        RETIRE => capped::zero(),
+        TRANS => capped::zero(),
+        FIRMSHORT => capped::product(share, single(data, tables_at, c, RES_VOLL)),
         // the tables priced by the hour
         _ => capped::scale(hour_price(data, tables_at, c, k, y, i), share),
     }
@@ -47,11 +47,11 @@ pub fn hours_of(data: &[u32], tables_at: &Starts, c: Counts, k: usize, s: usize)
     ensures { λ r. ⌜ r ≡ hoursOf (read (now («data» .entry))) k s ⌝ }
 {
     match k {
-        0 => 1,
-        1 => 1,
-        2 => 1,
-        5 => 1,
-        9 => 1,
+        CAP => 1,
+        BUILD => 1,
+        RETIRE => 1,
+        TRANS => 1,
+        FIRMSHORT => 1,
         _ => by_slice(data, tables_at, c, DURATION, s),
     }
 }

@@ -104,19 +104,15 @@ pub fn hour_price(data: &[u32], tables_at: &Starts, c: Counts, t: usize, y: usiz
     ensures { λ r. ⌜ r ≡ cap (hourPrice (read (now («data» .entry))) t y i) ⌝ }
 {
     match t {
-        // gen
-        3 => {
+        GEN => {
             let untaxed = capped::of(by_year_plant(data, tables_at, c, GEN_COST, y, i));
             let tax = by_year(data, tables_at, c, TAX, y);
             let emission = by_plant(data, tables_at, c, EMISSION, i);
             capped::add_product(untaxed, tax, emission)
         }
-        // reserve
-        4 => capped::of(by_plant(data, tables_at, c, RES_COST, i)),
-        // unmet
-        6 => capped::of(single(data, tables_at, c, VOLL)),
-        // surplus
-        7 => capped::of(single(data, tables_at, c, SURPLUS_PENALTY)),
+        RESERVE => capped::of(by_plant(data, tables_at, c, RES_COST, i)),
+        UNMET => capped::of(single(data, tables_at, c, VOLL)),
+        SURPLUS => capped::of(single(data, tables_at, c, SURPLUS_PENALTY)),
         // spinshort
         _ => capped::of(single(data, tables_at, c, SRES_VOLL)),
     }

@@ -1,8 +1,15 @@
 // The range of each entry of the data, both ends included.
-use tables::entries::by_plant;
-use tables::starts::Starts;
 use model::Counts;
 use model::TABLE_COUNT;
+use tables::entries::by_plant;
+use tables::names::FUEL;
+use tables::names::GEN_CAP;
+use tables::names::KIND;
+use tables::names::MAX_NEW_CAP;
+use tables::names::TL;
+use tables::names::YEAR;
+use tables::names::ZONE;
+use tables::starts::Starts;
 ghost use mathlib.Core.Path.{_≡_};
 ghost use Prim.Native.Nat.{ℕ, _+_, _-_, _≤_, _<_};
 ghost use lib.ListN.{getD};
@@ -138,7 +145,7 @@ fn is_existing(data: &[u32], tables_at: &Starts, c: Counts, g: usize) -> bool
     requires { ⌜ EntryAt (now «data») (now «tables_at») c 6 [g] 0 g 0 0 ⌝ }
     ensures { λ r. ⌜ r ≡ existing (read (now («data» .entry))) g ⌝ }
 {
-    by_plant(data, tables_at, c, 6, g) == 0
+    by_plant(data, tables_at, c, KIND, g) == 0
 }
 
 // The range of table `t` at first index `i` and second index `j`. No range depends on the year or the slice.
@@ -147,12 +154,12 @@ pub fn range_at(data: &[u32], tables_at: &Starts, c: Counts, t: usize, i: usize,
     ensures { λ r. ⌜ ((y s : ℕ) → ranged r ≡ rangeOf t (read (now («data» .entry))) y i j s) ⌝ }
 {
     match t {
-        4 => below(c.zones),
-        5 => below(c.fuels),
-        8 => any_if(is_existing(data, tables_at, c, i)),
-        9 => plant_year(is_existing(data, tables_at, c, i), c.years),
-        10 => none_if(is_existing(data, tables_at, c, i)),
-        29 => none_if(i == j),
+        ZONE => below(c.zones),
+        FUEL => below(c.fuels),
+        GEN_CAP => any_if(is_existing(data, tables_at, c, i)),
+        YEAR => plant_year(is_existing(data, tables_at, c, i), c.years),
+        MAX_NEW_CAP => none_if(is_existing(data, tables_at, c, i)),
+        TL => none_if(i == j),
         _ => fixed_range(t),
     }
 }

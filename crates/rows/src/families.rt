@@ -23,6 +23,25 @@ use crate::zones::transfer;
 use energy::totals::EnergyTable;
 use model::Counts;
 use sums::Place;
+use tables::families::AVAILABLE;
+use tables::families::BALANCE;
+use tables::families::CAPITAL;
+use tables::families::FIRM;
+use tables::families::FIXED;
+use tables::families::FUEL_USE;
+use tables::families::LIFE;
+use tables::families::LOADING;
+use tables::families::MINIMUM_LOAD;
+use tables::families::NEW_CAPACITY;
+use tables::families::OFFER;
+use tables::families::PROFILED;
+use tables::families::RAMP_DOWN;
+use tables::families::RAMP_UPWARD;
+use tables::families::SPINNING;
+use tables::families::STOCK;
+use tables::families::TRANSFER;
+use tables::families::YEARLY_BUILD;
+use tables::families::ZONE_EMISSION;
 use tables::starts::Starts;
 ghost use mathlib.Core.Path.{_≡_};
 ghost use Prim.Native.Nat.{_<_};
@@ -47,25 +66,25 @@ pub fn row_sides(
     let j = p.second;
     let s = p.slice;
     match k {
-        0 => balance(data, plan, outputs, tables_at, columns_at, c, scale, y, i, s),
-        1 => transfer(data, plan, tables_at, columns_at, c, scale, y, i, j, s),
-        2 => spinning(data, plan, outputs, reserves, tables_at, columns_at, c, scale, y, i, s),
-        3 => firm(data, plan, tables_at, columns_at, c, scale, y, i),
-        4 => loading(data, plan, outputs, reserves, tables_at, columns_at, c, y, i, s),
-        5 => offer(data, plan, reserves, tables_at, columns_at, c, y, i, s),
-        6 => ramp_down(data, plan, outputs, tables_at, columns_at, c, y, i, s),
-        7 => ramp_up(data, plan, outputs, tables_at, columns_at, c, y, i, s),
-        8 => minimum_load(data, plan, outputs, tables_at, columns_at, c, y, i, s),
-        9 => available(data, plan, energy, tables_at, columns_at, c, y, i, s),
-        10 => profiled(data, plan, outputs, tables_at, columns_at, c, y, i, s),
-        11 => stock(data, plan, tables_at, columns_at, c, scale, y, i),
-        12 => life(data, plan, tables_at, columns_at, c, y, i),
-        13 => fixed(data, plan, tables_at, columns_at, c, y, i),
-        14 => new_capacity(data, plan, tables_at, columns_at, c, scale, i),
-        15 => yearly_build(data, plan, tables_at, columns_at, c, scale, y, i),
-        16 => fuel_use(data, energy, tables_at, c, scale, y, i, j),
-        17 => capital(data, plan, tables_at, columns_at, c, scale),
-        18 => zone_emission(data, energy, tables_at, c, scale, y, i),
+        BALANCE => balance(data, plan, outputs, tables_at, columns_at, c, scale, y, i, s),
+        TRANSFER => transfer(data, plan, tables_at, columns_at, c, scale, y, i, j, s),
+        SPINNING => spinning(data, plan, outputs, reserves, tables_at, columns_at, c, scale, y, i, s),
+        FIRM => firm(data, plan, tables_at, columns_at, c, scale, y, i),
+        LOADING => loading(data, plan, outputs, reserves, tables_at, columns_at, c, y, i, s),
+        OFFER => offer(data, plan, reserves, tables_at, columns_at, c, y, i, s),
+        RAMP_DOWN => ramp_down(data, plan, outputs, tables_at, columns_at, c, y, i, s),
+        RAMP_UPWARD => ramp_up(data, plan, outputs, tables_at, columns_at, c, y, i, s),
+        MINIMUM_LOAD => minimum_load(data, plan, outputs, tables_at, columns_at, c, y, i, s),
+        AVAILABLE => available(data, plan, energy, tables_at, columns_at, c, y, i, s),
+        PROFILED => profiled(data, plan, outputs, tables_at, columns_at, c, y, i, s),
+        STOCK => stock(data, plan, tables_at, columns_at, c, scale, y, i),
+        LIFE => life(data, plan, tables_at, columns_at, c, y, i),
+        FIXED => fixed(data, plan, tables_at, columns_at, c, y, i),
+        NEW_CAPACITY => new_capacity(data, plan, tables_at, columns_at, c, scale, i),
+        YEARLY_BUILD => yearly_build(data, plan, tables_at, columns_at, c, scale, y, i),
+        FUEL_USE => fuel_use(data, energy, tables_at, c, scale, y, i, j),
+        CAPITAL => capital(data, plan, tables_at, columns_at, c, scale),
+        ZONE_EMISSION => zone_emission(data, energy, tables_at, c, scale, y, i),
         _ => system_emission(data, energy, tables_at, c, scale, y),
     }
 }
