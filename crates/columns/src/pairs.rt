@@ -56,8 +56,8 @@ fn take(p: Pair, a: u64, m: Multiplier) -> Pair
     }
 }
 
-// The term of row y, i, j, s of family k, in which the column has the coefficient a. The row is not handed over as a Place: so the compiler sees each
-// family as a constant and inlines (docs/BENCHMARKS.md).
+// The term of row y, i, j, s of family k, in which the column has the coefficient a. Family and indices are not one Place: a Place is handed over in
+// memory, where inlining no longer sees that the family is a constant; certify took 1.7 times as long.
 pub fn add_row(p: Pair, a: u64, ms: &[i64], rows_at: &RowStarts, c: Counts, k: usize, y: usize, i: usize, j: usize, s: usize) -> Pair
     requires { ⌜ Row (now ms) (now «rows_at») c k y i j s ⌝ }
     ensures { λ r. ⌜ r ≡ added p a (rowMultiplier c (now (ms .entry)) (index k y i j s)) ⌝ }

@@ -86,10 +86,14 @@ module _ {l tables-at : List ℕ} {c : Counts} {z : ℕ} (n : TablesAt l tables-
   unfolding tableBoxes
   few-prm = entry-range (read l) e 28 0 z 0 0 (omega arith, omega arith, rw (n .counts) hz, omega arith, omega arith) .1
 
--- The dispatcher: what an arm knows of the four indices, by its key
+-- The dispatcher
 
+-- what an arm knows of the four indices, by its key
 pub inside-at : {c : Counts} {k y i j s : ℕ} (K : ℕ) → k ≡ K → Inside c (familyOf k .set) y i j s → Inside c (familyOf K .set) y i j s
 inside-at K e m = rw e at m
+
+pub member-at : (c : Counts) {k y i j s : ℕ} (K : ℕ) → k ≡ K → Member (rowBoxes c) (index k y i j s) → Member (rowBoxes c) (index K y i j s)
+member-at c K e m = rw e at m
 
 -- k is one of some keys
 abbrev among : List ℕ → ℕ → Bool
@@ -118,7 +122,3 @@ arms-are =
 
 pub without-arm : (k : ℕ) → k < familyCount → NoneAmong (Unit {0}) arms k → hasConstant k ≡ false
 without-arm k l h = arms-are k l ∙ none-among k arms h .1
-
-pub member-at : (c : Counts) {k y i j s : ℕ} (K : ℕ) → k ≡ K → Member (rowBoxes c) (index k y i j s) → Member (rowBoxes c) (index K y i j s)
-member-at c K e m = rw e at m
-

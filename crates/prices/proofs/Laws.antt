@@ -3,7 +3,7 @@ use mathlib.Core.Path.{_≡_, refl, sym, _∙_, ap}
 use mathlib.Core.Bool.{not}
 use mathlib.Core.List.{List}
 use Prim.Native.Nat.{ℕ, _+_, _*_, _-_, _≤_, _<_}
-use native.Mathlib.Nat.{add-zero, add-assoc, zero-mul, mul-one, mul-comm, mul-assoc, mul-left-comm, mul-pos}
+use native.Mathlib.Nat.{zero-add, add-zero, add-assoc, zero-mul, mul-one, mul-comm, mul-assoc, mul-left-comm, mul-pos}
 use native.Mathlib.Omega.{arith}
 use lib.Dec.{eqb}
 use lib.ListN.{length, getD, take, drop, length-take, length-drop}
@@ -15,12 +15,12 @@ use Rattle.capped.proofs.Laws.{plus-cap, both-cap, times-cap, times-both}
 use Rattle.sums.specs.Sum.{sum, on}
 use Rattle.sums.specs.declared.Place.{Place}
 use Rattle.sums.specs.Index.{Index, index, indexOf, box, boxOf, inside}
-use Rattle.sums.proofs.ByKind.{_▹_}
+use Rattle.sums.proofs.ByKind.{terms, _▹_}
 use Rattle.sums.proofs.Sums.{sum-cong, sum-add, sum-scale, sum-single, sum-const-zero}
 use Rattle.model.specs.declared.Counts.{Counts}
 use Rattle.model.specs.Counts.{sets, slicesOf}
 use Rattle.model.specs.Data.{Data, duration, genCost, tax, emission}
-use Rattle.model.specs.Columns.{columnSets, columnBoxes, kindCount}
+use Rattle.model.specs.Columns.{columnBoxes, kindCount}
 use Rattle.model.specs.Prices.{price, cost, yearWeight}
 use Rattle.tables.specs.Layout.{Inside, ColumnAt, planEntry}
 use Rattle.tables.proofs.Laws.{columnPlace, column-below, column-is}
@@ -173,7 +173,8 @@ module _ {plan columns-at : List ℕ} {c : Counts} {t y i : ℕ} (m : Hours plan
 
 -- The cost by years
 
-sum-kinds : (f : ℕ → ℕ) → sum kindCount f ≡ f 0 + f 1 + f 2 + f 3 + f 4 + f 5 + f 6 + f 7 + f 8 + f 9
+-- written out, a term for each table
+sum-kinds : (f : ℕ → ℕ) → sum kindCount f ≡ terms kindCount f
 unfolding sum
 sum-kinds f = omega arith
 
@@ -194,4 +195,4 @@ pub cost-by-year : (D : Data) (c : Counts) (x : Index → ℕ) → D .counts ≡
 unfolding cost columnBoxes yearCost hoursCost
 cost-by-year D c x e =
     rw (← e)
-    (sum-kinds _ ∙ simp (sum-single, build-free, retire-free, trans-free, zero-mul, sum-const-zero, sum-add, add-zero, add-assoc))
+    (sum-kinds _ ∙ simp (sum-single, build-free, retire-free, trans-free, zero-mul, sum-const-zero, sum-add, zero-add, add-zero, add-assoc))

@@ -1,4 +1,3 @@
-use mathlib.Core.Path.{_≡_}
 use Rattle.tables.proofs.Laws.{last-arm}
 use Prim.Native.Nat.{_-_}
 use Rattle.model.specs.Families.{familyOf, familyCount}
