@@ -8,24 +8,17 @@ use Rattle.sums.specs.declared.Box.{Box}
 use Rattle.sums.specs.Index.{Index, index, boxOf, Member}
 use Rattle.model.specs.declared.Counts.{Counts}
 use Rattle.model.specs.Counts.{sets}
-use Rattle.model.specs.Columns.{columnSets, columnBoxes, kindCount}
+use Rattle.model.specs.Columns.{columnSets, columnBoxes}
 use Rattle.model.specs.Data.{read}
 use Rattle.model.specs.Families.{familyCount}
 use Rattle.model.specs.Standing.{standing⁺, standing⁻}
 use Rattle.tables.specs.Layout.{Counted, Inside}
-use Rattle.tables.proofs.Laws.{box-at}
+use Rattle.tables.proofs.Members.{column-inside}
 use Rattle.duals.specs.Multipliers.{RowsAt}
 use Rattle.columns.specs.declared.Pair.{Pair}
 use Rattle.columns.specs.Pairs.{pairOf, pricedPair, familySets, Row, Ready}
 use Rattle.columns.proofs.Laws.{row-at, column-priced}
 use Rattle.columns.proofs.Sound.{sound-placed}
-
--- a column's kind and its four indices
-pub column-inside : (c : Counts) {k y i j s : ℕ} → Member (columnBoxes c) (index k y i j s) → (k < kindCount) × Inside c (getD columnSets k 0) y i j s
-unfolding columnBoxes
-column-inside c {k} m =
-    let e = box-at c columnSets k (m .0) in
-    (m .0, record { year = rw (← e) (m .1); «first» = rw (← e) (m .2); second = rw (← e) (m .3); slice = rw (← e) (m .4) })
 
 -- what `column_sums` asks
 abbrev Asked : List ℕ → List ℕ → List ℤ → List ℕ → Counts → Index → Type 0

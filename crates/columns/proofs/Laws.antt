@@ -27,7 +27,7 @@ use Rattle.model.proofs.Standing.{stands}
 use Rattle.tables.specs.Layout.{Counted}
 use Rattle.tables.proofs.Laws.{getD-map-in}
 use Rattle.duals.specs.Multipliers.{multiplierOf, RowsAt}
-use Rattle.duals.proofs.Laws.{family-box}
+use Rattle.tables.proofs.Members.{family-box}
 use Rattle.columns.specs.declared.Pair.{Pair}
 use Rattle.columns.specs.Pairs.{noTerms, joined, added, taken, addedIf, takenIf, rowMultiplier, pairOf, pricedPair, familySets, Row}
 

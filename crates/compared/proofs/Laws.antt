@@ -5,13 +5,13 @@
 use mathlib.Core.Path.{_≡_, refl, sym, _∙_}
 use mathlib.Core.Bool.{true, false, cond, _&&_}
 use mathlib.Core.Logic.{_⊎_, inl, inr, ⊎-elim}
-use Prim.Native.Nat.{ℕ, _+_, _-_, _/_, _<_, _≤_, zero-le}
+use Prim.Native.Nat.{ℕ, _+_, _-_, _<_, _≤_, zero-le}
 use native.Mathlib.Nat.{add-zero, eq-or-lt-of-le}
 use native.Mathlib.Omega.{arith}
 use lib.Dec.{leb, ltb}
 use borrow.Author.Tests.{le-leb, lt-leb, lt-ltb, le-ltb, ltb-true, ltb-false}
 use Rattle.capped.specs.declared.Sum.{Sum}
-use Rattle.capped.specs.declared.Sum.the-variants.{Exact, Over}
+use Rattle.capped.specs.declared.Sum.the-variants.{Exact}
 use Rattle.compared.specs.declared.Amount.{Amount}
 use Rattle.compared.specs.declared.Amount.the-variants.{Exactly, Above}
 use Rattle.compared.specs.declared.Order.{Order}

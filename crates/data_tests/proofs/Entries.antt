@@ -2,15 +2,12 @@
 use mathlib.Core.Path.{_≡_, refl, sym, ap, _∙_}
 use mathlib.Core.Bool.{Bool}
 use mathlib.Core.List.{List}
-use Prim.Native.Nat.{ℕ, _+_, _≤_, _<_}
+use Prim.Native.Nat.{ℕ, _+_, _<_}
 use native.Mathlib.Omega.{arith}
 use lib.ListN.{length, getD}
 use Rattle.sums.specs.declared.Box.{Box}
-use Rattle.sums.specs.Span.{Fault, fine, upto}
+use Rattle.sums.specs.Span.{Fault, upto}
 use Rattle.sums.specs.Index.{index, boxOf, volume, inside}
-use Rattle.sums.proofs.Spans.{upto-step}
-use Rattle.model.specs.declared.Outcome.{Outcome}
-use Rattle.model.specs.declared.Outcome.the-variants.{Fine}
 use Rattle.model.specs.declared.Refusal.{Refusal}
 use Rattle.model.specs.declared.Refusal.the-variants.{Entry}
 use Rattle.model.specs.declared.Counts.{Counts}

@@ -29,10 +29,11 @@ use Rattle.model.specs.declared.Refusal.the-variants.{MultiplierCount, Multipli
 use Rattle.model.specs.declared.Shape.{Shape}
 use Rattle.model.specs.Counts.{sets}
 use Rattle.model.specs.Data.{Data}
-use Rattle.model.specs.Families.{family, families, familyOf, rowBoxes, shapeOf, familyCount}
+use Rattle.model.specs.Families.{familyOf, rowBoxes, shapeOf, familyCount}
 use Rattle.model.specs.Tests.{unless, part⁺, part⁻, mostMultiplier, multiplier, multiplierCountFault, multiplierFault, multipliersFault}
-use Rattle.tables.specs.Layout.{outcome, Inside}
+use Rattle.tables.specs.Layout.{outcome}
 use Rattle.tables.proofs.Laws.{getD-map-in, small-set}
+use Rattle.tables.proofs.Members.{family-box, row-inside}
 use Rattle.duals.specs.declared.Multiplier as part
 use Rattle.duals.specs.Multipliers.{multiplierOf, Shaped, RowsAt}
 
@@ -77,11 +78,6 @@ row-kinds c = refl
 pub rows-end : (c : Counts) {n : ℕ} → n ≡ start (rowBoxes c) familyCount → n ≡ count (rowBoxes c)
 rows-end c e = rw (row-kinds c) e
 
--- a family's index set
-pub family-box : (c : Counts) {k : ℕ} → k < familyCount → boxOf (rowBoxes c) k ≡ boxOf (sets c) (familyOf k .set)
-unfolding familyOf rowBoxes
-family-box c {k} h = getD-map-in (λ (f : Family). boxOf (sets c) (f .set)) families (family 0 0 false) (box 0 0 0 0) k h
-
 module _ {shape : Shape} (h : Shaped shape) where
   pub all-sizes : length (shape .sizes) ≡ familyCount
   unfolding shapeOf rowBoxes
@@ -117,17 +113,10 @@ module _ {shape : Shape} (h : Shaped shape) where
 -- A row's place among the multipliers
 
 module _ {c : Counts} {k y i j s : ℕ} (m : Member (rowBoxes c) (index k y i j s)) where
-  -- its family and its four indices
-  pub row-inside : (k < familyCount) × Inside c (familyOf k .set) y i j s
-  unfolding rowBoxes
-  row-inside =
-      let e = family-box c (m .0) in
-      (m .0, record { year = rw (← e) (m .1); «first» = rw (← e) (m .2); second = rw (← e) (m .3); slice = rw (← e) (m .4) })
-
   module _ {ms : List ℤ} {rows-at : List ℕ} (d : RowsAt ms rows-at c) where
     pub row-is : getD rows-at k 0 + inside (boxOf (sets c) (familyOf k .set)) y i j s ≡ number (rowBoxes c) (index k y i j s)
     row-is =
-        let l = row-inside .0 in
+        let l = row-inside c m .0 in
         omega (arith, d .starts k (omega arith), ap (λ (b : Box). inside b y i j s) (family-box c l))
 
     pub row-below : getD rows-at k 0 + inside (boxOf (sets c) (familyOf k .set)) y i j s < length ms

@@ -15,56 +15,30 @@ use Rattle.capped.proofs.Laws.{both-cap}
 use Rattle.compared.proofs.Laws.{le-difference}
 use Rattle.sums.specs.declared.Box.{Box}
 use Rattle.sums.specs.Span.{fault, orElse}
-use Rattle.sums.specs.Index.{Index, index, boxOf, Member}
+use Rattle.sums.specs.Index.{Index, index, Member}
 use Rattle.sums.proofs.Numbering.{number-bound}
 use Rattle.model.specs.declared.Counts.{Counts}
 use Rattle.model.specs.declared.Refusal.the-variants.{ColumnOffScale, Underpriced}
-use Rattle.model.specs.Counts.{sets}
 use Rattle.model.specs.Data as spec
-use Rattle.model.specs.Data.{Data, tableBoxes, countsOf, placeOf, dataLength, read, tableCount}
-use Rattle.model.specs.Columns.{columnBoxes, columnNumber, entries}
-use Rattle.model.specs.Families.{familyOf, rowBoxes, familyCount}
+use Rattle.model.specs.Data.{Data, tableBoxes, countsOf, placeOf, dataLength, read}
+use Rattle.model.specs.Columns.{columnNumber, entries}
 use Rattle.model.specs.Prices.{price}
 use Rattle.model.specs.Tests.{unless, priced⁺, priced⁻, columnFault}
 use Rattle.model.proofs.Sound.{both}
 use Rattle.ranges.specs.declared.Range.{Range}
-use Rattle.tables.specs.Layout.{Counted, TablesAt, Inside, tableSets, planEntry}
+use Rattle.tables.specs.Layout.{TablesAt, planEntry}
 use Rattle.ranges.specs.Ranges.{ranged, rangeOf}
-use Rattle.tables.proofs.Laws.{box-at}
 use Rattle.rows.specs.declared.Sides.{Sides}
 use Rattle.rows.specs.Ready.{sidesOf}
-use Rattle.row_tests.proofs.Steps as row
 use Rattle.columns.specs.declared.Pair.{Pair}
 use Rattle.columns.specs.Pairs.{pricedPair}
-use Rattle.columns.proofs.Arms.{column-inside}
-use Rattle.pricing.proofs.Steps as column
 use Rattle.figures.specs.declared.RowFigures.{RowFigures}
 use Rattle.figures.specs.declared.ColumnFigures.{ColumnFigures}
 use Rattle.figures.specs.Figures.{rowFigures, columnFigures, entryFigures, toldSides, toldPair}
 
 -- Members of the index sets
 
-module _ (c : Counts) {k y i j s : ℕ} (m : Member (rowBoxes c) (index k y i j s)) where
-  pub row-inside : (k < familyCount) × Inside c (familyOf k .set) y i j s
-  unfolding rowBoxes
-  row-inside =
-      let e : boxOf (sets c) (familyOf k .set) ≡ boxOf (rowBoxes c) k = row.box-is c (m .0) refl refl in
-      (m .0, record { year = rw e (m .1); «first» = rw e (m .2); second = rw e (m .3); slice = rw e (m .4) })
-
-  pub row-year : Counted c → y < c .years
-  row-year n = row.year-below c (row-inside .0) refl refl n (row-inside .1 .year)
-
-module _ (c : Counts) {k y i j s : ℕ} (m : Member (columnBoxes c) (index k y i j s)) where
-  pub column-year : y < c .years
-  column-year = let own = column-inside c m in column.year-below c (own .0) refl (own .1 .year)
-
 module _ (c : Counts) {t y i j s : ℕ} (m : Member (tableBoxes c) (index t y i j s)) where
-  pub entry-inside : (t < tableCount) × Inside c (getD tableSets t 0) y i j s
-  unfolding tableBoxes
-  entry-inside =
-      let e : boxOf (tableBoxes c) t ≡ boxOf (sets c) (getD tableSets t 0) = box-at c tableSets t (m .0) in
-      (m .0, record { year = rw (← e) (m .1); «first» = rw (← e) (m .2); second = rw (← e) (m .3); slice = rw (← e) (m .4) })
-
   pub entry-below : placeOf c (index t y i j s) < dataLength c
   unfolding placeOf dataLength
   entry-below = omega (arith, number-bound (tableBoxes c) (index t y i j s) m)

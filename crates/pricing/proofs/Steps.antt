@@ -2,23 +2,22 @@
 use mathlib.Core.Path.{_≡_, sym, ap, _∙_}
 use mathlib.Core.List.{List}
 use Prim.Native.Nat.{ℕ, _*_, _≤_, _<_}
-use native.Mathlib.Omega.{arith}
 use lib.IntN.{ℤ}
 use lib.ListN.{length, getD}
 use Rattle.sums.specs.declared.Box.{Box}
 use Rattle.sums.specs.Span.{Fault, first}
-use Rattle.sums.specs.Index.{index, box, boxOf, members, Member}
-use Rattle.sums.proofs.Lists.{at-place}
+use Rattle.sums.specs.Index.{index, boxOf, members, Member}
 use Rattle.model.specs.declared.Counts.{Counts}
 use Rattle.model.specs.declared.Refusal.{Refusal}
 use Rattle.model.specs.Counts.{sets}
 use Rattle.model.specs.Data.{Data}
 use Rattle.model.specs.Columns.{columnSets, columnBoxes, kindCount}
 use Rattle.model.specs.Tests.{columnFault, columnsFault}
-use Rattle.tables.specs.Layout.{outcome}
+use Rattle.tables.specs.Layout.{Counted, outcome}
 use Rattle.tables.proofs.Laws.{box-at}
+use Rattle.tables.proofs.Members as members
 
--- there are ten tables of columns
+-- as many kinds of column as the walk counts
 pub table-below : (c : Counts) {k : ℕ} → k < kindCount → k < length (columnBoxes c)
 unfolding columnBoxes
 table-below c l = l
@@ -27,13 +26,9 @@ pub tables-end : (c : Counts) {k : ℕ} → kindCount ≤ k → length (columnBo
 unfolding columnBoxes
 tables-end c l = l
 
-pub columns-fit : (c : Counts) {n : ℕ} → n ≤ 983040 * length (columnBoxes c) → n ≤ 9830400
+pub columns-fit : (c : Counts) {n : ℕ} → n ≤ 983040 * length (columnBoxes c) → n ≤ 983040 * kindCount
 unfolding columnBoxes
 columns-fit c l = l
-
-few-years : (c : Counts) (k : ℕ) → k < kindCount → boxOf (columnBoxes c) k .years ≤ c .years
-unfolding columnBoxes
-few-years c k l = at-place (λ k b. b .years ≤ c .years) (columnBoxes c) (box 0 0 0 0) (omega arith) k l
 
 -- the box that the code has
 module _ (c : Counts) {k : ℕ} {b : Box} (l : k < kindCount) (e : b ≡ boxOf (sets c) (getD columnSets k 0)) where
@@ -47,8 +42,8 @@ module _ (c : Counts) {k : ℕ} {b : Box} (l : k < kindCount) (e : b ≡ boxOf (
   pub first-below : {i : ℕ} → i < b .firsts → i < boxOf (sets c) (getD columnSets k 0) .firsts
   first-below h = rw (← e) h
 
-  pub year-below : {y : ℕ} → y < b .years → y < c .years
-  year-below hy = omega (arith, few-years c k l, ap (λ (a : Box). a .years) box-is)
+  pub year-below : {y : ℕ} → Counted c → y < b .years → y < c .years
+  year-below n hy = members.year-below (getD columnSets k 0) n e hy
 
 -- the walk's answer
 pub answered : (D : Data) (ms : List ℤ) {c : Counts} {f : Fault Refusal} → D .counts ≡ c → first (members (columnBoxes c)) (columnFault D ms) ≡ f

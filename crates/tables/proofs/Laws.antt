@@ -45,7 +45,7 @@ last-arm n l h = let m = none-of n h in omega arith
 
 module _ {A : Type 0} where
   -- what holds of each entry of a list and of the default holds at any place
-  at-any : (P : A → Type 0) (l : List A) (d : A) → Alls (λ k. P) l → P d → (k : ℕ) → P (getD l k d)
+  pub at-any : (P : A → Type 0) (l : List A) (d : A) → Alls (λ k. P) l → P d → (k : ℕ) → P (getD l k d)
   at-any P [] d h e k = e
   at-any P (a ∷ t) d h e zero = h .0
   at-any P (a ∷ t) d h e (suc k) = at-any P t d (h .1) e k

@@ -5,7 +5,8 @@ use Rattle.sums.proofs.ByKind.{only-zero}
 use Rattle.model.specs.Standing.{standing⁺, standing⁻}
 use Rattle.model.specs.Columns.{kindCount}
 use Rattle.tables.proofs.Laws.{last-arm}
-use Rattle.columns.proofs.Arms.{column-inside, own-indices, by-first, by-slice, by-second, zone-by-slice, zone-row, column-is}
+use Rattle.tables.proofs.Members.{column-inside}
+use Rattle.columns.proofs.Arms.{own-indices, by-first, by-slice, by-second, zone-by-slice, zone-row, column-is}
 use Rattle.columns.proofs.column_sums.Statement.{statement}
 use Rattle.columns.proofs.column_sums.Tie as tie
 

@@ -1,21 +1,22 @@
 use mathlib.Core.Path.{_∙_}
 use native.Mathlib.Omega.{arith}
 use borrow.Author.Needs.{needs}
-use Rattle.duals.proofs.Laws.{row-inside, row-is, row-below}
+use Rattle.tables.proofs.Members.{row-inside}
+use Rattle.duals.proofs.Laws.{row-is, row-below}
 use Rattle.duals.proofs.multiplier_at.Statement.{statement}
 use Rattle.duals.proofs.multiplier_at.Tie as tie
 
 set-of-requires : tie.Need-set-of-requires
-set-of-requires c κs = row-inside (c .pre .1 .1) .0
+set-of-requires c κs = row-inside _ (c .pre .1 .1) .0
 
 inside-of-requires : tie.Need-inside-of-requires
-inside-of-requires c κs = rw (c .set-of .ensures) (c .before .pre .0, row-inside (c .before .pre .1 .1) .1)
+inside-of-requires c κs = rw (c .set-of .ensures) (c .before .pre .0, row-inside _ (c .before .pre .1 .1) .1)
 
 mul-multiplier-in : tie.Need-mul-multiplier-in
-mul-multiplier-in c = let l = row-inside (c .before .before .pre .1 .1) .0 in search needs
+mul-multiplier-in c = let l = row-inside _ (c .before .before .pre .1 .1) .0 in search needs
 
 element-copy-out-multiplier-in : tie.Need-element-copy-out-multiplier-in
-element-copy-out-multiplier-in c = let l = row-inside (c .before .before .pre .1 .1) .0 in search needs
+element-copy-out-multiplier-in c = let l = row-inside _ (c .before .before .pre .1 .1) .0 in search needs
 
 add-multiplier-in : tie.Need-add-multiplier-in
 add-multiplier-in c =

@@ -1,8 +1,8 @@
 use Rattle.sums.specs.Index.{indexOf}
 use Rattle.model.specs.Data.{read}
 use Rattle.prices.proofs.Laws.{column-price}
-use Rattle.columns.proofs.Arms.{column-inside}
-use Rattle.figures.proofs.Laws.{column-year, column-told}
+use Rattle.tables.proofs.Members.{column-inside, year-inside}
+use Rattle.figures.proofs.Laws.{column-told}
 use borrow.Author.Needs.{needs}
 use Rattle.figures.proofs.priced_at.Statement.{statement}
 use Rattle.figures.proofs.priced_at.Tie as tie
@@ -13,7 +13,7 @@ column-sums-requires c κs = search needs
 unit-price-requires : tie.Need-unit-price-requires
 unit-price-requires c κs =
     let p = c .before .before .pre in
-    let own = column-inside _ (p .1) in (p .0 .tablesAt, (own .0, (column-year _ (p .1), own .1 .first)))
+    let own = column-inside _ (p .1) in (p .0 .tablesAt, (own .0, (year-inside (p .0 .tablesAt .counted) (own .1), own .1 .first)))
 
 hours-of-requires : tie.Need-hours-of-requires
 hours-of-requires c κs =

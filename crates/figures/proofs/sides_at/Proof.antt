@@ -1,9 +1,9 @@
 use mathlib.Core.Path.{refl}
 use native.Mathlib.Omega.{arith}
 use Rattle.tables.proofs.Laws.{small}
+use Rattle.tables.proofs.Members.{row-inside, year-inside}
 use Rattle.parts.proofs.Parts.{places-are, part-asked}
-use Rattle.row_tests.proofs.Steps.{ready}
-use Rattle.figures.proofs.Laws.{row-inside, row-year}
+use Rattle.rows.proofs.Readiness.{ready}
 use borrow.Author.Needs.{needs}
 use Rattle.figures.proofs.sides_at.Statement.{statement}
 use Rattle.figures.proofs.sides_at.Tie as tie
@@ -21,7 +21,7 @@ year-part-requires : tie.Need-year-part-requires
 year-part-requires c κs =
     let p = c .before .before .before .before .before .pre in
     let few = p .0 .0 .counted in
-    part-asked few (p .0 .1 .1 .0) (row-year _ (p .1) few) (places-are (c .before .before .before .before .before .args .c) (c .before .before .slices-of .ensures .0)) 3 (omega arith) refl
+    part-asked few (p .0 .1 .1 .0) (year-inside few (row-inside _ (p .1) .1)) (places-are (c .before .before .before .before .before .args .c) (c .before .before .slices-of .ensures .0)) 3 (omega arith) refl
 
 element-copy-out-year-part-2 : tie.Need-element-copy-out-year-part-2
 element-copy-out-year-part-2 c = search needs
@@ -30,13 +30,13 @@ year-part-requires-2 : tie.Need-year-part-requires-2
 year-part-requires-2 c κs =
     let p = c .before .before .before .before .before .before .before .pre in
     let few = p .0 .0 .counted in
-    part-asked few (p .0 .1 .1 .0) (row-year _ (p .1) few) (places-are (c .before .before .before .before .before .before .before .args .c) (c .before .before .before .before .slices-of .ensures .0)) 4 (omega arith) refl
+    part-asked few (p .0 .1 .1 .0) (year-inside few (row-inside _ (p .1) .1)) (places-are (c .before .before .before .before .before .before .before .args .c) (c .before .before .before .before .slices-of .ensures .0)) 4 (omega arith) refl
 
 row-sides-requires : tie.Need-row-sides-requires
 row-sides-requires c κs =
     let p = c .before .before .before .before .before .before .before .before .pre in
     let places = places-are (c .before .before .before .before .before .before .before .before .args .c) (c .before .before .before .before .before .slices-of .ensures .0) in
-    (ready (p .0) (row-year _ (p .1) (p .0 .0 .counted)) places (c .before .before .year-part .ensures) (c .year-part2 .ensures), row-inside _ (p .1))
+    (ready (p .0) (year-inside (p .0 .0 .counted) (row-inside _ (p .1) .1)) places (c .before .before .year-part .ensures) (c .year-part2 .ensures), row-inside _ (p .1))
 
 returns : tie.Need-returns
 returns c = search needs

@@ -1,5 +1,5 @@
 use mathlib.Core.Path.{sym, _∙_}
-use Rattle.duals.proofs.Laws.{family-box}
+use Rattle.tables.proofs.Members.{family-box}
 use Rattle.gap.specs.Signs.{walkedBox}
 use borrow.Author.Needs.{needs}
 use Rattle.gap.proofs.walked_box.Statement.{statement}

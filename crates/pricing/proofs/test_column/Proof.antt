@@ -2,7 +2,7 @@ use mathlib.Core.Path.{sym, ap, _∙_}
 use Rattle.sums.specs.Index.{indexOf, number}
 use Rattle.model.specs.declared.Counts.{Counts}
 use Rattle.model.specs.Columns.{columnBoxes}
-use Rattle.columns.proofs.Arms.{column-inside}
+use Rattle.tables.proofs.Members.{column-inside}
 use Rattle.pricing.proofs.Verdicts.{verdict-is}
 use borrow.Author.Needs.{needs}
 use Rattle.pricing.proofs.test_column.Statement.{statement}

@@ -80,7 +80,7 @@ unit-price-requires c κs =
     let p = c4 .before .before .before .before .pre in
     let l = c4 .before .walk-test .taken in
     let b = c4 .column-box .ensures .0 in
-    (p .tablesAt, (l, (year-below _ l b (c .before .before .loop-test .taken), first-below _ l b (c .loop2-test .taken))))
+    (p .tablesAt, (l, (year-below _ l b (p .tablesAt .counted) (c .before .before .loop-test .taken), first-below _ l b (c .loop2-test .taken))))
 
 loop3-holds : here tie.Need-loop3-holds
 loop3-holds c = none (c .before .before .loop2 .inv .accepted)

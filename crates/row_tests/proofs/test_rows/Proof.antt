@@ -11,7 +11,8 @@ use Rattle.tables.proofs.Laws.{small}
 use Rattle.tables.proofs.Steps.{Going, Walked, ofSecond, ofFirst, ofYear, yearMembers, none, more, turn, walked-none, walked-more, walked-all}
 use Rattle.tables.proofs.Steps.{member-number, member-below, stopped, outcome-fine, outcome-fails}
 use Rattle.parts.proofs.Parts.{places-are, part-asked}
-use Rattle.row_tests.proofs.Steps.{box-is, inside-is, year-below, ready, family-below, families-end, rows-fit, answered}
+use Rattle.rows.proofs.Readiness.{ready}
+use Rattle.row_tests.proofs.Steps.{box-is, inside-is, year-below, family-below, families-end, rows-fit, answered}
 use borrow.Author.Needs.{needs}
 use Rattle.row_tests.proofs.test_rows.Statement.{statement}
 use Rattle.row_tests.proofs.test_rows.Tie as tie

@@ -1,7 +1,7 @@
 use Rattle.writer.proofs.Laws.{said-joined}
 use lib.ListN.{getD}
 use Rattle.model.specs.Columns.{columnSets}
-use Rattle.figures.proofs.Laws.{column-inside}
+use Rattle.tables.proofs.Members.{column-inside}
 use Rattle.index_words.proofs.Laws.{low-inside}
 use Rattle.sentences.specs.Sentences.{columnWords}
 use borrow.Author.Needs.{needs}

@@ -2,7 +2,7 @@ use Rattle.writer.proofs.Laws.{said-joined}
 use lib.ListN.{getD}
 use Rattle.tables.specs.Layout.{tableSets}
 use Rattle.index_words.proofs.Laws.{low-inside}
-use Rattle.figures.proofs.Laws.{entry-inside}
+use Rattle.tables.proofs.Members.{entry-inside}
 use Rattle.sentences.specs.Sentences.{entryWords}
 use borrow.Author.Needs.{needs}
 use Rattle.sentences.proofs.entry_words.say_entry.Statement.{statement}

@@ -5,7 +5,8 @@ use Rattle.model.specs.Columns.{entries}
 use Rattle.model.specs.Families.{rowBoxes}
 use Rattle.data_tests.proofs.Passed.{passed-long, sound-head, counts-sound, counts-read}
 use Rattle.writer.proofs.Laws.{said-joined, said-same}
-use Rattle.figures.proofs.Laws.{row-inside, counted-alike}
+use Rattle.tables.proofs.Members.{row-inside}
+use Rattle.figures.proofs.Laws.{counted-alike}
 use Rattle.sentences.specs.Sentences.{ruleWords}
 use Rattle.sentences.proofs.Laws.{numbered-asked, broken-is}
 use borrow.Author.Needs.{needs}

@@ -1,4 +1,4 @@
-use Rattle.figures.proofs.Laws.{row-inside}
+use Rattle.tables.proofs.Members.{row-inside}
 use Rattle.model.specs.Families.{rowBoxes}
 use Rattle.data_tests.proofs.Passed.{passed-long, sound-head, counts-sound, counts-read}
 use Rattle.writer.proofs.Laws.{said-joined, said-same}

@@ -1,7 +1,7 @@
 use mathlib.Core.Path.{_∙_}
 use Rattle.writer.proofs.Laws.{said-joined}
 use Rattle.model.specs.Families.{familyOf}
-use Rattle.figures.proofs.Laws.{row-inside}
+use Rattle.tables.proofs.Members.{row-inside}
 use Rattle.sentences.specs.Sentences.{rowWords}
 use Rattle.index_words.proofs.Laws.{low-inside}
 use borrow.Author.Needs.{needs}
