@@ -1,4 +1,4 @@
--- The arms of the `match` over the ten tables of columns: what each knows of the four indices by its key, and what its answer is. Assumes nothing.
+-- The arms of the `match` over the kinds of column: what each knows of the four indices by its key, and what its answer is. Assumes nothing.
 use mathlib.Core.Path.{_≡_, _∙_}
 use mathlib.Core.List.{List}
 use Prim.Native.Nat.{ℕ, _<_}

@@ -28,7 +28,7 @@ ghost use Prim.Native.Nat.{_*_, _-_, _%_, _<_};
 ghost use lib.Dec.{ltb};
 ghost use Rattle.sums.specs.Span.{fine};
 ghost use Rattle.model.specs.Counts.{slicesOf};
-ghost use Rattle.model.specs.Data.{read, zone, fuel, existing, isVre, onMinLoadDay, duration, availability, rate, weight, annuity, loss};
+ghost use Rattle.model.specs.Data.{read, zone, fuel, isVre, onMinLoadDay, duration, availability, rate, weight, annuity, loss};
 ghost use Rattle.model.specs.Families.{seasonSum, outOfService};
 ghost use Rattle.model.specs.Tests.{entriesFault};
 ghost use Rattle.tables.specs.Layout.{Counted, TablesAt};
@@ -53,13 +53,6 @@ pub fn fuel_of(data: &[u32], tables_at: &Starts, c: Counts, g: usize) -> usize
     ensures { λ r. ⌜ (r ≡ fuel (read (now («data» .entry))) g) × (r < c .fuels) ⌝ }
 {
     place(by_plant(data, tables_at, c, FUEL, g))
-}
-
-pub fn is_existing(data: &[u32], tables_at: &Starts, c: Counts, g: usize) -> bool
-    requires { ⌜ TablesAt (now «data») (now «tables_at») c × (g < c .plants) ⌝ }
-    ensures { λ r. ⌜ r ≡ existing (read (now («data» .entry))) g ⌝ }
-{
-    by_plant(data, tables_at, c, KIND, g) == 0
 }
 
 pub fn is_vre(data: &[u32], tables_at: &Starts, c: Counts, g: usize) -> bool

@@ -1,4 +1,4 @@
-// The constants of the rows of the twenty families.
+// The constants of the rows of each family.
 pub mod families;
 pub mod fleet;
 pub mod zones;

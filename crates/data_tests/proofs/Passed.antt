@@ -18,7 +18,7 @@ use Rattle.model.specs.declared.Counts.{Counts}
 use Rattle.model.specs.Data.{within, _to_, mostCounts, countsOf, dataLength, read, tableCount}
 use Rattle.model.specs.Tests.{unless, headFault, countFault, countsFault, lengthFault, entriesFault, dataFault}
 use Rattle.model.proofs.Sound.{count-range, passed}
-use Rattle.model.specs.Columns.{columnSets, columnBoxes, kindCount}
+use Rattle.model.specs.Columns.{columnSets, columnBoxes, columnKindCount}
 use Rattle.tables.specs.Layout.{outcome, Counted, TablesAt, ColumnsAt, startFrom, tableSets}
 use Rattle.tables.proofs.Laws.{tables-end, columns-end as columns-are}
 
@@ -169,9 +169,9 @@ pub counts-read : (l : List ℕ) {c : Counts} → c ≡ countsOf l → read l .c
 unfolding read
 counts-read l e = sym e
 
-pub columns-end : (l : List ℕ) {c : Counts} {n : ℕ} → c ≡ countsOf l → n ≡ startFrom c columnSets 0 kindCount → n ≡ count (columnBoxes (read l .counts))
+pub columns-end : (l : List ℕ) {c : Counts} {n : ℕ} → c ≡ countsOf l → n ≡ startFrom c columnSets 0 columnKindCount → n ≡ count (columnBoxes (read l .counts))
 columns-end l {c} e q = q ∙ columns-are c ∙ ap (λ (d : Counts). count (columnBoxes d)) (sym (counts-read l e))
 
 pub plan-columns : {plan columns-at : List ℕ} {c : Counts} (l : List ℕ) → c ≡ countsOf l → length plan ≡ count (columnBoxes (read l .counts))
-    → ((k : ℕ) → k ≤ kindCount → getD columns-at k 0 ≡ startFrom c columnSets 0 k) → ColumnsAt plan columns-at c
+    → ((k : ℕ) → k ≤ columnKindCount → getD columns-at k 0 ≡ startFrom c columnSets 0 k) → ColumnsAt plan columns-at c
 plan-columns l e w s = record { whole = w ∙ ap (λ (d : Counts). count (columnBoxes d)) (counts-read l e); starts = s }

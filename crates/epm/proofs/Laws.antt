@@ -76,7 +76,7 @@ module _ (l : List ℕ) (N : ℕ) (plan : List ℕ) where
   unfolding check checkFault
   data-refused e q = refused-first (dataFault l) (planFault (read l) N plan) (costOf l plan) e q
 
-  -- the columns' number is where the last table of columns ends
+  -- the columns' number is where the last kind of column ends
   pub plan-refused : {o : Outcome} {r : Refusal} {n : ℕ} → dataFault l ≡ fine → n ≡ count (columnBoxes (read l .counts)) → o ≡ planTest N (length plan) n → o ≡ Fails r
       → Refused r ≡ check l N plan
   unfolding check checkFault planFault planTest planLengthFault

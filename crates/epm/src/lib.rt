@@ -10,7 +10,7 @@ use energy::totals::fill_energies;
 use model::Answer;
 use model::Certificate;
 use model::Counts;
-use model::KIND_COUNT;
+use model::COLUMN_KIND_COUNT;
 use model::Outcome;
 use model::Refusal;
 use plan_tests::test_plan;
@@ -58,7 +58,7 @@ pub fn check(data: &[u32], scale: u32, plan: &[u32]) -> Answer
     let c = counts_of(data);
     let tables_at = table_starts(c);
     let columns_at = column_starts(c);
-    match test_plan(scale, plan.len(), columns_at[KIND_COUNT]) {
+    match test_plan(scale, plan.len(), columns_at[COLUMN_KIND_COUNT]) {
         Outcome::Fails(r) => return Answer::Refused(r),
         Outcome::Fine => {}
     }

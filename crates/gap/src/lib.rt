@@ -51,7 +51,7 @@ fn with_row(t: BySign, m: Multiplier, k: Constant) -> BySign
 }
 
 // The term of row p added.
-fn add_row(data: &[u32], ms: &[i64], tables_at: &Starts, rows_at: &RowStarts, c: Counts, p: Place, t: BySign) -> BySign
+fn add_term(data: &[u32], ms: &[i64], tables_at: &Starts, rows_at: &RowStarts, c: Counts, p: Place, t: BySign) -> BySign
     requires { ⌜ TablesAt (now «data») (now «tables_at») c × ((entriesFault (read (now «data»)) ≡ fine) × (RowsAt (now ms) (now «rows_at») c × Member (rowBoxes c) (indexOf p))) ⌝ }
     ensures { λ r. ⌜ r ≡ withTerm (read (now («data» .entry))) (now (ms .entry)) t (indexOf p) ⌝ }
 {
@@ -87,7 +87,7 @@ pub fn constant_terms(data: &[u32], ms: &[i64], tables_at: &Starts, rows_at: &Ro
                 for j in 0..b.seconds {
                     for s in 0..b.slices {
                         let row = Place { kind: k, year: y, first: i, second: j, slice: s };
-                        t = add_row(data, ms, tables_at, rows_at, c, row, t);
+                        t = add_term(data, ms, tables_at, rows_at, c, row, t);
                     }
                 }
             }

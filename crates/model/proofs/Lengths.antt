@@ -2,14 +2,14 @@
 use mathlib.Core.Path.{_≡_, refl}
 use lib.ListN.{length}
 use Rattle.model.specs.Families.{families, familyCount}
-use Rattle.model.specs.Columns.{columnSets, kindCount}
+use Rattle.model.specs.Columns.{columnSets, columnKindCount}
 use Rattle.model.specs.Data.{tables, tableCount}
 
 pub family-count : length families ≡ familyCount
 family-count = refl
 
-pub kind-count : length columnSets ≡ kindCount
-kind-count = refl
+pub column-kind-count : length columnSets ≡ columnKindCount
+column-kind-count = refl
 
 pub table-count : length tables ≡ tableCount
 table-count = refl

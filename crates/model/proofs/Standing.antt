@@ -22,7 +22,7 @@ StandsAt D c =
     → (byKind (rows D) (λ r. coefficient (equation D r .positive) c * m r) ≡ value (standing⁺ D c) m)
     × (byKind (rows D) (λ r. coefficient (equation D r .negative) c * m r) ≡ value (standing⁻ D c) m)
 
--- A line for each table of columns. `simp` drops the families that a column does not stand in, and collapses the sums of the others
+-- A line for each kind of column. `simp` drops the families that a column does not stand in, and collapses the sums of the others
 -- at the column's own indices and at those that follow from them: a plant's zone and fuel, the year after, the slice after, a slice's season.
 -- Slices 0 and S are a day's first hour, so no ramp row takes the slice before them.
 module _ (D : Data) (p : Placed D) where

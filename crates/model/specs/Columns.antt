@@ -13,8 +13,8 @@ abbrev pub columnSets : List ℕ
 columnSets = [yg] ∷ [yg] ∷ [yg] ∷ [ygs] ∷ [ygs] ∷ [yzzs] ∷ [yzs] ∷ [yzs] ∷ [yzs] ∷ [yz] ∷ []
 
 -- how many kinds of column there are
-abbrev pub kindCount : ℕ
-kindCount = 10
+abbrev pub columnKindCount : ℕ
+columnKindCount = 10
 
 -- each table's columns by name
 abbrev pub cap : ℕ → ℕ → Index

@@ -13,7 +13,7 @@ use Rattle.sums.specs.Index.{index}
 use Rattle.sums.proofs.Numbering.{below-product}
 use Rattle.model.specs.declared.Counts.{Counts}
 use Rattle.model.specs.Counts.{slicesOf, seasonLength}
-use Rattle.tables.specs.Layout.{Counted, ColumnsAt, planEntry}
+use Rattle.tables.specs.Layout.{Counted, planEntry}
 use Rattle.tables.proofs.Laws.{few-slices}
 use Rattle.parts.specs.Years.{YearPart}
 

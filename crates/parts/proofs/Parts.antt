@@ -1,4 +1,4 @@
--- The year's part of a table of columns by year, plant and slice lies inside the plan, and holds that year's entries.
+-- The year's part of a kind of column by year, plant and slice lies inside the plan, and holds that year's entries.
 use mathlib.Core.Path.{_≡_, refl, sym, ap, _∙_}
 use mathlib.Core.List.{List}
 use Prim.Native.Nat.{ℕ, suc, _+_, _*_, _-_, _≤_, _<_}
@@ -8,8 +8,8 @@ use lib.ListN.{length, getD, take, drop, length-drop}
 use lib.Seq.{getD-take, getD-drop, length-take-le}
 use Rattle.model.specs.declared.Counts.{Counts}
 use Rattle.model.specs.Counts.{slicesOf, [ygs]}
-use Rattle.model.specs.Columns.{columnSets, kindCount}
-use Rattle.tables.specs.Layout.{Counted, ColumnsAt, ColumnAt, planEntry}
+use Rattle.model.specs.Columns.{columnSets, columnKindCount}
+use Rattle.tables.specs.Layout.{Counted, ColumnsAt, PlanEntryAt, planEntry}
 use Rattle.tables.proofs.Laws.{column-below, column-is}
 use Rattle.parts.specs.Years.{YearPart}
 use Rattle.parts.proofs.Laws.{part-below, few-places}
@@ -18,8 +18,8 @@ pub places-are : (c : Counts) {n : ℕ} → n ≡ slicesOf c → c .plants * n �
 places-are c e = ap (λ (n : ℕ). c .plants * n) e
 
 module _ {plan columns-at : List ℕ} {c : Counts} {y places : ℕ} (few : Counted c) (p : ColumnsAt plan columns-at c) (hy : y < c .years) (q : places ≡ c .plants * slicesOf c)
-    (t : ℕ) (ht : t < kindCount) (e : getD columnSets t 0 ≡ [ygs]) where
-  column : (g s : ℕ) → g < c .plants → s < slicesOf c → ColumnAt plan columns-at c t [ygs] y g 0 s
+    (t : ℕ) (ht : t < columnKindCount) (e : getD columnSets t 0 ≡ [ygs]) where
+  column : (g s : ℕ) → g < c .plants → s < slicesOf c → PlanEntryAt plan columns-at c t [ygs] y g 0 s
   column g s hg hs =
       record { columnsAt = p; counted = few; table = ht; set = e; inside = record { year = hy; «first» = hg; second = omega arith; slice = hs } }
 

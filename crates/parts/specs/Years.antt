@@ -8,7 +8,13 @@ use Rattle.model.specs.declared.Counts.{Counts}
 use Rattle.model.specs.Counts.{slicesOf}
 use Rattle.tables.specs.Layout.{planEntry}
 
--- a year's part of table t of columns by year, plant and slice (3 gen, 4 reserve): entry g, s stands at g·S + s
+-- the kinds of column by plant and slice whose parts are lent
+abbrev pub genKind : ℕ
+genKind = 3
+abbrev pub reserveKind : ℕ
+reserveKind = 4
+
+-- a year's part of table t of columns by year, plant and slice (gen or reserve): entry g, s stands at g·S + s
 pub record YearPart (plan part : List ℕ) (c : Counts) (t y : ℕ) : Type 0 where
   pub long : length part ≡ c .plants * slicesOf c
   pub is : (g s : ℕ) → g < c .plants → s < slicesOf c → getD part (g * slicesOf c + s) 0 ≡ planEntry c plan (index t y g 0 s)

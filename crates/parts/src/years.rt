@@ -9,7 +9,7 @@ ghost use Rattle.model.specs.Counts.{slicesOf};
 ghost use Rattle.model.specs.Data.{most32};
 ghost use Rattle.tables.specs.Layout.{Counted};
 
-// The part of year y of a table of columns by year, plant and slice that starts at `from`.
+// The part of year y of a kind of column by year, plant and slice that starts at `from`.
 pub fn year_part(plan: &[u32], from: usize, places: usize, y: usize) -> &[u32]
     requires { ⌜ (from + (y + 1) * places ≤ length (now plan)) × ((places ≤ 12288) × (y < 10)) ⌝ }
     ensures { λ r. ⌜ now r ≡ take places (drop (from + y * places) (now (plan .entry))) ⌝ }

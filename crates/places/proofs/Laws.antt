@@ -16,11 +16,10 @@ use Rattle.model.specs.declared.Family.{Family}
 use Rattle.model.specs.declared.Shape.{Shape}
 use Rattle.model.specs.Counts.{sets}
 use Rattle.model.specs.Data.{tableBoxes, tableCount}
-use Rattle.model.specs.Columns.{columnSets, columnBoxes, kindCount}
+use Rattle.model.specs.Columns.{columnSets, columnBoxes, columnKindCount}
 use Rattle.model.specs.Families.{family, families, familyOf, rowBoxes, shapeOf, familyCount}
-use Rattle.tables.specs.Layout.{Counted, tableSets, startFrom}
+use Rattle.tables.specs.Layout.{tableSets, startFrom}
 use Rattle.tables.proofs.Laws.{getD-map-in, box-at, start-at}
-use Rattle.duals.specs.Multipliers.{Shaped}
 use Rattle.sums.specs.declared.Place.{Place}
 use Rattle.places.specs.Numbers.{InBox, sliceAt, SlicesBack}
 
@@ -101,7 +100,7 @@ module _ (c : Counts) (at : List ℕ) where
   unfolding rowBoxes shapeOf
   row-starts-are e s = record { is = λ k h. s k h ∙ ap (λ (r : Shape). start (rowBoxes (r .counts)) k) e ∙ sym (zero-add _) }
 
-  pub column-starts-are : ((k : ℕ) → k ≤ kindCount → getD at k 0 ≡ startFrom c columnSets 0 k) → Starts (columnBoxes c) 0 at
+  pub column-starts-are : ((k : ℕ) → k ≤ columnKindCount → getD at k 0 ≡ startFrom c columnSets 0 k) → Starts (columnBoxes c) 0 at
   unfolding columnBoxes
   column-starts-are s = record { is = λ k h. s k h ∙ start-at c columnSets 0 k h }
 
@@ -114,7 +113,7 @@ module _ (c : Counts) {b : Box} {k : ℕ} where
   unfolding familyOf rowBoxes
   row-box h e q = q ∙ rw e (sym (getD-map-in (λ (f : Family). boxOf (sets c) (f .set)) families (family 0 0 false) (box 0 0 0 0) k h))
 
-  pub column-box : k < kindCount → b ≡ boxOf (sets c) (getD columnSets k 0) → b ≡ boxOf (columnBoxes c) k
+  pub column-box : k < columnKindCount → b ≡ boxOf (sets c) (getD columnSets k 0) → b ≡ boxOf (columnBoxes c) k
   unfolding columnBoxes
   column-box h q = q ∙ sym (box-at c columnSets k h)
 

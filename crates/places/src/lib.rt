@@ -2,7 +2,7 @@
 use duals::row_starts;
 use model::Counts;
 use model::FAMILY_COUNT;
-use model::KIND_COUNT;
+use model::COLUMN_KIND_COUNT;
 use model::TABLE_COUNT;
 use sums::Box;
 use sums::Place;
@@ -74,7 +74,7 @@ pub fn column_place(c: Counts, column: usize) -> Place
     ensures { λ r. ⌜ Numbered (columnBoxes c) column r ⌝ }
 {
     let starts = column_starts(c);
-    let k = kind_of(&starts, KIND_COUNT, column);
+    let k = kind_of(&starts, COLUMN_KIND_COUNT, column);
     let b = column_box(c, k);
     member_at(b, k, column - starts[k])
 }

@@ -2,7 +2,7 @@
 use model::Outcome;
 use model::Refusal;
 ghost use mathlib.Core.Path.{_≡_};
-ghost use mathlib.Core.Bool.{Bool, _&&_};
+ghost use mathlib.Core.Bool.{_&&_};
 ghost use Prim.Native.Nat.{_-_};
 ghost use lib.Dec.{ltb, leb};
 ghost use Rattle.plan_tests.specs.Tests.{planTest};

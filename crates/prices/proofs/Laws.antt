@@ -20,9 +20,9 @@ use Rattle.sums.proofs.Sums.{sum-cong, sum-add, sum-scale, sum-single, sum-cons
 use Rattle.model.specs.declared.Counts.{Counts}
 use Rattle.model.specs.Counts.{sets, slicesOf}
 use Rattle.model.specs.Data.{Data, duration, genCost, tax, emission}
-use Rattle.model.specs.Columns.{columnBoxes, kindCount}
+use Rattle.model.specs.Columns.{columnBoxes, columnKindCount}
 use Rattle.model.specs.Prices.{price, cost, yearWeight}
-use Rattle.tables.specs.Layout.{Inside, ColumnAt, planEntry}
+use Rattle.tables.specs.Layout.{Inside, PlanEntryAt, planEntry}
 use Rattle.tables.proofs.Laws.{columnPlace, column-below, column-is}
 use Rattle.prices.specs.Costs.{Hourly, Hours, gen, reserve, unmet, surplus, spinshort, setOf, firstsOf, hourPrice, unitPrice, hoursOf, slicesCost, hoursCost, yearCost}
 
@@ -51,7 +51,7 @@ last-table spinshort a b d e = refl
 
 -- what is true of each of them: the columns are by year, plant or zone, and slice; the price of a column, and its two factors
 pub record ByHour (t : ℕ) : Type 0 where
-  pub below : t < kindCount
+  pub below : t < columnKindCount
   pub own : (c : Counts) → boxOf (sets c) (setOf t) ≡ box (c .years) (firstsOf c t) 1 (slicesOf c)
   pub priced : (D : Data) (y i s : ℕ) → price D (index t y i 0 s) ≡ yearWeight D y * duration D s * hourPrice D t y i
   pub unit : (D : Data) (y i : ℕ) → unitPrice D t y i ≡ hourPrice D t y i * yearWeight D y
@@ -94,7 +94,7 @@ module _ (D : Data) (c : Counts) (x : Index → ℕ) {t : ℕ} (h : Hourly t) (y
 abbrev Rest : ℕ → Type 0
 Rest k = ((((Unit {0} × (k ≡ 0 → ⊥)) × (k ≡ 1 → ⊥)) × (k ≡ 2 → ⊥)) × (k ≡ 5 → ⊥)) × (k ≡ 9 → ⊥)
 
-pub rest-hourly : (k : ℕ) → k < kindCount → Rest k → Hourly k
+pub rest-hourly : (k : ℕ) → k < columnKindCount → Rest k → Hourly k
 rest-hourly =
     (λ i l. absurd (omega arith))
     ▹ (λ r. absurd (r .0 .0 .0 .0 .1 refl))
@@ -113,7 +113,7 @@ module _ (D : Data) (y i j s : ℕ) where
   in-order : (p : ℕ) → p * yearWeight D y * duration D s ≡ yearWeight D y * duration D s * p
   in-order p = simp (mul-comm, mul-left-comm)
 
-  pub price-factors : (k : ℕ) → k < kindCount → unitPrice D k y i * hoursOf D k s ≡ price D (index k y i j s)
+  pub price-factors : (k : ℕ) → k < columnKindCount → unitPrice D k y i * hoursOf D k s ≡ price D (index k y i j s)
   unfolding unitPrice hoursOf hourPrice price
   price-factors =
       (λ i l. absurd (omega arith))
@@ -129,7 +129,7 @@ module _ (D : Data) (y i j s : ℕ) where
       ▹ mul-one _
 
 -- so is what the code makes of the two
-pub column-price : (D : Data) (p : Place) {unit whole : Sum} {hours : ℕ} → p .kind < kindCount → unit ≡ cap (unitPrice D (p .kind) (p .year) (p .first))
+pub column-price : (D : Data) (p : Place) {unit whole : Sum} {hours : ℕ} → p .kind < columnKindCount → unit ≡ cap (unitPrice D (p .kind) (p .year) (p .first))
     → hours ≡ hoursOf D (p .kind) (p .slice) → whole ≡ times unit hours → whole ≡ cap (price D (indexOf p))
 column-price D p l e h q =
     q ∙ rw (e, h) (times-cap (unitPrice D (p .kind) (p .year) (p .first)) (hoursOf D (p .kind) (p .slice)) ∙ ap cap (price-factors D (p .year) (p .first) (p .second) (p .slice) (p .kind) l))
@@ -147,7 +147,7 @@ module _ {plan columns-at : List ℕ} {c : Counts} {t y i : ℕ} (m : Hours plan
   pub some-slices : 0 < slicesOf c
   some-slices = mul-pos (mul-pos (m .counted .someSeasons) (m .counted .someDays)) (m .counted .someHours)
 
-  column : {s : ℕ} → s < slicesOf c → ColumnAt plan columns-at c t (setOf t) y i 0 s
+  column : {s : ℕ} → s < slicesOf c → PlanEntryAt plan columns-at c t (setOf t) y i 0 s
   column l = record { columnsAt = m .columnsAt; counted = m .counted; table = by-hour (m .table) .below; set = refl; inside = slices-inside refl l }
 
   -- the code has the index set's code k, the place o of the first slice inside the table, and the number n of slices in locals
@@ -174,7 +174,7 @@ module _ {plan columns-at : List ℕ} {c : Counts} {t y i : ℕ} (m : Hours plan
 -- The cost by years
 
 -- written out, a term for each table
-sum-kinds : (f : ℕ → ℕ) → sum kindCount f ≡ terms kindCount f
+sum-kinds : (f : ℕ → ℕ) → sum columnKindCount f ≡ terms columnKindCount f
 unfolding sum
 sum-kinds f = omega arith
 

@@ -11,7 +11,7 @@ use Rattle.model.specs.Columns.{columnSets, cap, firmshort}
 use Rattle.model.specs.Prices.{price, yearWeight}
 use Rattle.tables.specs.Layout.{Counted, ColumnsAt}
 
--- the tables of columns that are priced by the hour: the columns of each are by year, plant or zone, and slice
+-- the kinds of column that are priced by the hour: the columns of each are by year, plant or zone, and slice
 pub data Hourly : ℕ → Type 0 where
   gen : Hourly 3
   reserve : Hourly 4

@@ -20,13 +20,13 @@ ghost use Rattle.capped.specs.Cap.{cap};
 ghost use Rattle.sums.specs.Index.{boxOf};
 ghost use Rattle.model.specs.Counts.{sets};
 ghost use Rattle.model.specs.Data.{read};
-ghost use Rattle.model.specs.Columns.{kindCount};
+ghost use Rattle.model.specs.Columns.{columnKindCount};
 ghost use Rattle.tables.specs.Layout.{TablesAt};
 ghost use Rattle.prices.specs.Costs.{setOf, firstsOf, unitPrice, hoursOf};
 
 // Of table k, year y, plant or zone i. Build, retire and trans have no price.
 pub fn unit_price(data: &[u32], tables_at: &Starts, c: Counts, k: usize, y: usize, i: usize) -> Sum
-    requires { ⌜ TablesAt (now «data») (now «tables_at») c × ((k < kindCount) × ((y < c .years) × (i < firstsOf c k))) ⌝ }
+    requires { ⌜ TablesAt (now «data») (now «tables_at») c × ((k < columnKindCount) × ((y < c .years) × (i < firstsOf c k))) ⌝ }
     ensures { λ r. ⌜ r ≡ cap (unitPrice (read (now («data» .entry))) k y i) ⌝ }
 {
     let share = year_weight(data, tables_at, c, y);
@@ -43,7 +43,7 @@ pub fn unit_price(data: &[u32], tables_at: &Starts, c: Counts, k: usize, y: usiz
 
 // The hours of slice s for a table priced by the hour, else 1.
 pub fn hours_of(data: &[u32], tables_at: &Starts, c: Counts, k: usize, s: usize) -> u64
-    requires { ⌜ TablesAt (now «data») (now «tables_at») c × ((k < kindCount) × (s < boxOf (sets c) (setOf k) .slices)) ⌝ }
+    requires { ⌜ TablesAt (now «data») (now «tables_at») c × ((k < columnKindCount) × (s < boxOf (sets c) (setOf k) .slices)) ⌝ }
     ensures { λ r. ⌜ r ≡ hoursOf (read (now («data» .entry))) k s ⌝ }
 {
     match k {

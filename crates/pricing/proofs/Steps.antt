@@ -1,4 +1,4 @@
--- The walk over all columns: the index sets of the tables of columns. Assumes nothing.
+-- The walk over all columns: the index sets of the kinds of column. Assumes nothing.
 use mathlib.Core.Path.{_≡_, sym, ap, _∙_}
 use mathlib.Core.List.{List}
 use Prim.Native.Nat.{ℕ, _*_, _≤_, _<_}
@@ -11,27 +11,27 @@ use Rattle.model.specs.declared.Counts.{Counts}
 use Rattle.model.specs.declared.Refusal.{Refusal}
 use Rattle.model.specs.Counts.{sets}
 use Rattle.model.specs.Data.{Data}
-use Rattle.model.specs.Columns.{columnSets, columnBoxes, kindCount}
+use Rattle.model.specs.Columns.{columnSets, columnBoxes, columnKindCount}
 use Rattle.model.specs.Tests.{columnFault, columnsFault}
 use Rattle.tables.specs.Layout.{Counted, outcome}
 use Rattle.tables.proofs.Laws.{box-at}
 use Rattle.tables.proofs.Members as members
 
 -- as many kinds of column as the walk counts
-pub table-below : (c : Counts) {k : ℕ} → k < kindCount → k < length (columnBoxes c)
+pub table-below : (c : Counts) {k : ℕ} → k < columnKindCount → k < length (columnBoxes c)
 unfolding columnBoxes
 table-below c l = l
 
-pub tables-end : (c : Counts) {k : ℕ} → kindCount ≤ k → length (columnBoxes c) ≤ k
+pub tables-end : (c : Counts) {k : ℕ} → columnKindCount ≤ k → length (columnBoxes c) ≤ k
 unfolding columnBoxes
 tables-end c l = l
 
-pub columns-fit : (c : Counts) {n : ℕ} → n ≤ 983040 * length (columnBoxes c) → n ≤ 983040 * kindCount
+pub columns-fit : (c : Counts) {n : ℕ} → n ≤ 983040 * length (columnBoxes c) → n ≤ 983040 * columnKindCount
 unfolding columnBoxes
 columns-fit c l = l
 
 -- the box that the code has
-module _ (c : Counts) {k : ℕ} {b : Box} (l : k < kindCount) (e : b ≡ boxOf (sets c) (getD columnSets k 0)) where
+module _ (c : Counts) {k : ℕ} {b : Box} (l : k < columnKindCount) (e : b ≡ boxOf (sets c) (getD columnSets k 0)) where
   pub box-is : b ≡ boxOf (columnBoxes c) k
   unfolding columnBoxes
   box-is = e ∙ sym (box-at c columnSets k l)

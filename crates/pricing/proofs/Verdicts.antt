@@ -22,7 +22,7 @@ use Rattle.model.specs.declared.Outcome.{Outcome}
 use Rattle.model.specs.declared.Outcome.the-variants.{Fails}
 use Rattle.model.specs.declared.Refusal.the-variants.{ColumnOffScale, Underpriced}
 use Rattle.model.specs.Data.{Data}
-use Rattle.model.specs.Columns.{columnNumber, kindCount}
+use Rattle.model.specs.Columns.{columnNumber, columnKindCount}
 use Rattle.model.specs.Prices.{price}
 use Rattle.model.specs.Tests.{priced⁺, priced⁻, unless, columnFault}
 use Rattle.tables.specs.Layout.{outcome}
@@ -69,7 +69,7 @@ two-sums u d p column =
     (λ (h : limit < u). rw (over-cap u, lt-ltb limit u h, lt-leb u limit h)) (le-or-lt u limit)
 
 -- a column's verdict is the document's test of it
-pub verdict-is : (D : Data) (ms : List ℤ) (p : Place) {v : Pair} {unit whole : Sum} {hours column : ℕ} → p .kind < kindCount
+pub verdict-is : (D : Data) (ms : List ℤ) (p : Place) {v : Pair} {unit whole : Sum} {hours column : ℕ} → p .kind < columnKindCount
     → v ≡ pricedPair D ms (indexOf p) → unit ≡ cap (unitPrice D (p .kind) (p .year) (p .first)) → hours ≡ hoursOf D (p .kind) (p .slice) → whole ≡ times unit hours
     → column ≡ columnNumber D (indexOf p) → verdictOf v whole column ≡ outcome (columnFault D ms (indexOf p))
 unfolding pricedPair columnFault

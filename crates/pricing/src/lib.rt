@@ -5,7 +5,7 @@ use columns::column_sums;
 use compared::Order;
 use duals::RowStarts;
 use model::Counts;
-use model::KIND_COUNT;
+use model::COLUMN_KIND_COUNT;
 use model::Outcome;
 use model::Refusal;
 use prices::column::hours_of;
@@ -51,7 +51,7 @@ fn verdict(sums: Pair, price: Sum, column: usize) -> Outcome
         Order::Less => Outcome::Fine,
         Order::Equal => Outcome::Fine,
         Order::Greater => Outcome::Fails(Refusal::Underpriced(column)),
-        // Never reached: `up` is not over here, and an order is unknown of two sums that are over alone (capped's law `order-unknown`).
+        // Never reached: `up` is not over here, and an order is unknown of two sums that are over alone (compared's law `order-unknown`).
         Order::Unknown => Outcome::Fails(Refusal::Underpriced(column)),
     }
 }
@@ -74,7 +74,7 @@ pub fn test_columns(data: &[u32], ms: &[i64], tables_at: &Starts, rows_at: &RowS
 {
     let mut answer = Outcome::Fine;
     let mut column = 0;
-    'walk: for k in 0..KIND_COUNT {
+    'walk: for k in 0..COLUMN_KIND_COUNT {
         let b = column_box(c, k);
         for y in 0..b.years {
             for i in 0..b.firsts {

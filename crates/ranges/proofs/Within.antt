@@ -1,21 +1,14 @@
 -- The range of an entry as the code finds it. Assumes nothing.
-use mathlib.Core.Path.{_≡_, refl, sym, _∙_}
+use mathlib.Core.Path.{_≡_, sym, _∙_}
 use mathlib.Core.List.{List, map}
 use mathlib.Core.Logic.{_≢_}
-use Prim.Native.Nat.{ℕ, _<_}
-use native.Mathlib.Omega.{arith}
+use Prim.Native.Nat.{ℕ}
 use lib.ListN.{getD, set, List·getD-map}
 use lib.Seq.{getD-set-other}
-use Rattle.model.specs.declared.Counts.{Counts}
 use Rattle.model.specs.Data as spec
 use Rattle.model.specs.Data.{Data, Table, tables, all, _to_}
 use Rattle.ranges.specs.declared.Range.{Range}
-use Rattle.tables.specs.Layout.{TablesAt, EntryAt}
 use Rattle.ranges.specs.Ranges.{ranged, fixed, byIndex, rangeOf}
-
--- a plant's kind can be read
-pub kind-entry : {l tables-at : List ℕ} {c : Counts} {i : ℕ} → TablesAt l tables-at c → i < c .plants → EntryAt l tables-at c 6 6 0 i 0 0
-kind-entry h m = record { tablesAt = h; table = omega arith; set = refl; inside = record { year = omega arith; «first» = m; second = omega arith; slice = omega arith } }
 
 -- a table that is none of the six has its fixed range: the ranges of all tables at an entry are the fixed ones but at these six
 pub fixed-is : (t : ℕ) → t ≢ 4 → t ≢ 5 → t ≢ 8 → t ≢ 9 → t ≢ 10 → t ≢ 29

@@ -1,22 +1,21 @@
 // The range of each entry of the data, both ends included.
 use model::Counts;
 use model::TABLE_COUNT;
-use tables::entries::by_plant;
 use tables::names::FUEL;
 use tables::names::GEN_CAP;
-use tables::names::KIND;
 use tables::names::MAX_NEW_CAP;
 use tables::names::TL;
 use tables::names::YEAR;
 use tables::names::ZONE;
+use tables::plants::is_existing;
 use tables::starts::Starts;
 ghost use mathlib.Core.Path.{_≡_};
 ghost use Prim.Native.Nat.{ℕ, _+_, _-_, _≤_, _<_};
 ghost use lib.ListN.{getD};
 ghost use Rattle.sums.specs.Index.{boxOf};
-ghost use Rattle.model.specs.Counts.{sets, [g]};
-ghost use Rattle.model.specs.Data.{within, either, _to_, most32, read, existing, tableCount};
-ghost use Rattle.tables.specs.Layout.{TablesAt, EntryAt, tableSets};
+ghost use Rattle.model.specs.Counts.{sets};
+ghost use Rattle.model.specs.Data.{within, either, _to_, most32, read, tableCount};
+ghost use Rattle.tables.specs.Layout.{TablesAt, tableSets};
 ghost use Rattle.ranges.specs.Ranges.{ranged, fixed, byIndex, rangeOf};
 
 pub struct Range {
@@ -138,14 +137,6 @@ fn plant_year(b: bool, years: usize) -> Range
         return Range { least: 2, most: narrow(years + 1) };
     }
     Range { least: 1, most: narrow(years) }
-}
-
-// Whether a plant is an existing one.
-fn is_existing(data: &[u32], tables_at: &Starts, c: Counts, g: usize) -> bool
-    requires { ⌜ EntryAt (now «data») (now «tables_at») c 6 [g] 0 g 0 0 ⌝ }
-    ensures { λ r. ⌜ r ≡ existing (read (now («data» .entry))) g ⌝ }
-{
-    by_plant(data, tables_at, c, KIND, g) == 0
 }
 
 // The range of table `t` at first index `i` and second index `j`. No range depends on the year or the slice.

@@ -48,7 +48,7 @@ fn verdict(sides: Sides, equal: bool, row: usize) -> Outcome
         }
         Order::Equal => Outcome::Fine,
         Order::Greater => Outcome::Fails(Refusal::Broken(row)),
-        // Never reached: neither sum is over here, and of two such sums the order is known (capped's law `order-unknown`).
+        // Never reached: neither sum is over here, and of two such sums the order is known (compared's law `order-unknown`).
         Order::Unknown => Outcome::Fails(Refusal::Broken(row)),
     }
 }

@@ -11,7 +11,7 @@ use Rattle.model.specs.Data.{Data, read}
 use Rattle.model.specs.Families.{equation}
 use Rattle.model.specs.Tests.{above, below, constant⁺, constant⁻, entriesFault}
 use Rattle.tables.specs.Layout.{TablesAt, ColumnsAt, planEntry}
-use Rattle.parts.specs.Years.{YearPart}
+use Rattle.parts.specs.Years.{YearPart, genKind, reserveKind}
 use Rattle.energy.specs.Energies.{Energies}
 use Rattle.constants.specs.declared.Constant.{Constant}
 use Rattle.rows.specs.declared.Sides.{Sides}
@@ -21,8 +21,8 @@ pub record Ready (l plan os rs : List ℕ) (energy : List (List ℕ)) (tables-at
   pub tablesAt : TablesAt l tables-at c
   pub sound : entriesFault (read l) ≡ fine
   pub columnsAt : ColumnsAt plan columns-at c
-  pub outputs : YearPart plan os c 3 y
-  pub reserves : YearPart plan rs c 4 y
+  pub outputs : YearPart plan os c genKind y
+  pub reserves : YearPart plan rs c reserveKind y
   pub energies : Energies (read l) (planEntry c plan) energy c
 
 -- two numbers, each as a capped sum

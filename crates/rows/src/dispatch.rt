@@ -35,7 +35,7 @@ ghost use Rattle.model.specs.Data.{read};
 ghost use Rattle.model.specs.Columns.{cap as capColumn, gen};
 ghost use Rattle.model.specs.Families.{row};
 ghost use Rattle.tables.specs.Layout.{Counted, TablesAt, ColumnsAt, planEntry};
-ghost use Rattle.parts.specs.Years.{YearPart};
+ghost use Rattle.parts.specs.Years.{YearPart, genKind, reserveKind};
 ghost use Rattle.energy.specs.Energies.{Energies};
 ghost use Rattle.rows.specs.Ready.{sidesOf, sides};
 
@@ -60,7 +60,7 @@ pub fn loading(
     data: &[u32], plan: &[u32], outputs: &[u32], reserves: &[u32], tables_at: &Starts, columns_at: &Starts, c: Counts,
     y: usize, g: usize, s: usize,
 ) -> Sides
-    requires { ⌜ (TablesAt (now «data») (now «tables_at») c × (ColumnsAt (now plan) (now «columns_at») c × (YearPart (now plan) (now outputs) c 3 y × YearPart (now plan) (now reserves) c 4 y))) × ((y < c .years) × ((g < c .plants) × (s < slicesOf c))) ⌝ }
+    requires { ⌜ (TablesAt (now «data») (now «tables_at») c × (ColumnsAt (now plan) (now «columns_at») c × (YearPart (now plan) (now outputs) c genKind y × YearPart (now plan) (now reserves) c reserveKind y))) × ((y < c .years) × ((g < c .plants) × (s < slicesOf c))) ⌝ }
     ensures { λ r. ⌜ ((N : ℕ) → r ≡ sidesOf (read (now («data» .entry))) N (planEntry c (now (plan .entry))) (row 5 y g 0 s)) ⌝ }
 {
     let rate = 1000 + by_plant(data, tables_at, c, OVER_LOAD, g);
@@ -72,7 +72,7 @@ pub fn loading(
 
 // 6 (23): 1000·reserve ≤ ResOffer·cap
 pub fn offer(data: &[u32], plan: &[u32], reserves: &[u32], tables_at: &Starts, columns_at: &Starts, c: Counts, y: usize, g: usize, s: usize) -> Sides
-    requires { ⌜ (TablesAt (now «data») (now «tables_at») c × (ColumnsAt (now plan) (now «columns_at») c × YearPart (now plan) (now reserves) c 4 y)) × ((y < c .years) × ((g < c .plants) × (s < slicesOf c))) ⌝ }
+    requires { ⌜ (TablesAt (now «data») (now «tables_at») c × (ColumnsAt (now plan) (now «columns_at») c × YearPart (now plan) (now reserves) c reserveKind y)) × ((y < c .years) × ((g < c .plants) × (s < slicesOf c))) ⌝ }
     ensures { λ r. ⌜ ((N : ℕ) → r ≡ sidesOf (read (now («data» .entry))) N (planEntry c (now (plan .entry))) (row 6 y g 0 s)) ⌝ }
 {
     let rate = by_plant(data, tables_at, c, RES_OFFER, g);
@@ -84,7 +84,7 @@ pub fn offer(data: &[u32], plan: &[u32], reserves: &[u32], tables_at: &Starts, c
 
 // 7 (24), t > 0: 1000·(gen[s−1] − gen[s]) ≤ RampDn·cap
 pub fn ramp_down(data: &[u32], plan: &[u32], outputs: &[u32], tables_at: &Starts, columns_at: &Starts, c: Counts, y: usize, g: usize, s: usize) -> Sides
-    requires { ⌜ (TablesAt (now «data») (now «tables_at») c × (ColumnsAt (now plan) (now «columns_at») c × YearPart (now plan) (now outputs) c 3 y)) × ((y < c .years) × ((g < c .plants) × (s < slicesOf c))) ⌝ }
+    requires { ⌜ (TablesAt (now «data») (now «tables_at») c × (ColumnsAt (now plan) (now «columns_at») c × YearPart (now plan) (now outputs) c genKind y)) × ((y < c .years) × ((g < c .plants) × (s < slicesOf c))) ⌝ }
     ensures { λ r. ⌜ ((N : ℕ) → r ≡ sidesOf (read (now («data» .entry))) N (planEntry c (now (plan .entry))) (row 7 y g 0 s)) ⌝ }
 {
     if first_hour(c, s) {
@@ -96,7 +96,7 @@ pub fn ramp_down(data: &[u32], plan: &[u32], outputs: &[u32], tables_at: &Starts
 
 // 8 (25), t > 0: 1000·(gen[s] − gen[s−1]) ≤ RampUp·cap
 pub fn ramp_up(data: &[u32], plan: &[u32], outputs: &[u32], tables_at: &Starts, columns_at: &Starts, c: Counts, y: usize, g: usize, s: usize) -> Sides
-    requires { ⌜ (TablesAt (now «data») (now «tables_at») c × (ColumnsAt (now plan) (now «columns_at») c × YearPart (now plan) (now outputs) c 3 y)) × ((y < c .years) × ((g < c .plants) × (s < slicesOf c))) ⌝ }
+    requires { ⌜ (TablesAt (now «data») (now «tables_at») c × (ColumnsAt (now plan) (now «columns_at») c × YearPart (now plan) (now outputs) c genKind y)) × ((y < c .years) × ((g < c .plants) × (s < slicesOf c))) ⌝ }
     ensures { λ r. ⌜ ((N : ℕ) → r ≡ sidesOf (read (now («data» .entry))) N (planEntry c (now (plan .entry))) (row 8 y g 0 s)) ⌝ }
 {
     if first_hour(c, s) {
@@ -108,7 +108,7 @@ pub fn ramp_up(data: &[u32], plan: &[u32], outputs: &[u32], tables_at: &Starts, 
 
 // 1000·(gen[high] − gen[low]) ≤ rate·cap: how far the output of one slice may lie above that of another.
 fn ramp(plan: &[u32], outputs: &[u32], columns_at: &Starts, c: Counts, rate: u64, y: usize, g: usize, high: usize, low: usize) -> Sides
-    requires { ⌜ (Counted c × (ColumnsAt (now plan) (now «columns_at») c × YearPart (now plan) (now outputs) c 3 y)) × ((y < c .years) × ((g < c .plants) × ((high < slicesOf c) × (low < slicesOf c)))) ⌝ }
+    requires { ⌜ (Counted c × (ColumnsAt (now plan) (now «columns_at») c × YearPart (now plan) (now outputs) c genKind y)) × ((y < c .years) × ((g < c .plants) × ((high < slicesOf c) × (low < slicesOf c)))) ⌝ }
     ensures { λ r. ⌜ r ≡ sides (rate * planEntry c (now (plan .entry)) (capColumn y g) + 1000 * planEntry c (now (plan .entry)) (gen y g low)) (1000 * planEntry c (now (plan .entry)) (gen y g high)) ⌝ }
 {
     let allowed = rate_of_capacity(plan, columns_at, c, rate, y, g);
@@ -120,7 +120,7 @@ fn ramp(plan: &[u32], outputs: &[u32], columns_at: &Starts, c: Counts, rate: u64
 
 // 9 (26), minimum-load days: 1000·gen ≥ MinCapFac·cap
 pub fn minimum_load(data: &[u32], plan: &[u32], outputs: &[u32], tables_at: &Starts, columns_at: &Starts, c: Counts, y: usize, g: usize, s: usize) -> Sides
-    requires { ⌜ (TablesAt (now «data») (now «tables_at») c × (ColumnsAt (now plan) (now «columns_at») c × YearPart (now plan) (now outputs) c 3 y)) × ((y < c .years) × ((g < c .plants) × (s < slicesOf c))) ⌝ }
+    requires { ⌜ (TablesAt (now «data») (now «tables_at») c × (ColumnsAt (now plan) (now «columns_at») c × YearPart (now plan) (now outputs) c genKind y)) × ((y < c .years) × ((g < c .plants) × (s < slicesOf c))) ⌝ }
     ensures { λ r. ⌜ ((N : ℕ) → r ≡ sidesOf (read (now («data» .entry))) N (planEntry c (now (plan .entry))) (row 9 y g 0 s)) ⌝ }
 {
     if by_day(data, tables_at, c, MIN_LOAD, season_of(c, s), day_of(c, s)) != 1 {
@@ -156,7 +156,7 @@ pub fn available(
 
 // 11 (28), VRE: 1000·gen ≤ Profile·cap
 pub fn profiled(data: &[u32], plan: &[u32], outputs: &[u32], tables_at: &Starts, columns_at: &Starts, c: Counts, y: usize, g: usize, s: usize) -> Sides
-    requires { ⌜ (TablesAt (now «data») (now «tables_at») c × (ColumnsAt (now plan) (now «columns_at») c × YearPart (now plan) (now outputs) c 3 y)) × ((y < c .years) × ((g < c .plants) × (s < slicesOf c))) ⌝ }
+    requires { ⌜ (TablesAt (now «data») (now «tables_at») c × (ColumnsAt (now plan) (now «columns_at») c × YearPart (now plan) (now outputs) c genKind y)) × ((y < c .years) × ((g < c .plants) × (s < slicesOf c))) ⌝ }
     ensures { λ r. ⌜ ((N : ℕ) → r ≡ sidesOf (read (now («data» .entry))) N (planEntry c (now (plan .entry))) (row 11 y g 0 s)) ⌝ }
 {
     if by_plant(data, tables_at, c, VRE, g) != 1 {

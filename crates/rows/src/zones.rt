@@ -34,7 +34,7 @@ ghost use Rattle.model.specs.Data.{read};
 ghost use Rattle.model.specs.Families.{row};
 ghost use Rattle.model.specs.Tests.{entriesFault};
 ghost use Rattle.tables.specs.Layout.{TablesAt, ColumnsAt, planEntry};
-ghost use Rattle.parts.specs.Years.{YearPart};
+ghost use Rattle.parts.specs.Years.{YearPart, genKind, reserveKind};
 ghost use Rattle.rows.specs.Ready.{sidesOf};
 
 // 1 (14): 1000·Σ gen in z − 1000·Σ trans[z,z2] + Σ (1000 − Loss[z2,z])·trans[z2,z] + unmet − surplus = Demand·EE
@@ -42,7 +42,7 @@ pub fn balance(
     data: &[u32], plan: &[u32], outputs: &[u32], tables_at: &Starts, columns_at: &Starts, c: Counts, scale: u64,
     y: usize, z: usize, s: usize,
 ) -> Sides
-    requires { ⌜ (TablesAt (now «data») (now «tables_at») c × ((entriesFault (read (now «data»)) ≡ fine) × (ColumnsAt (now plan) (now «columns_at») c × YearPart (now plan) (now outputs) c 3 y))) × ((y < c .years) × ((z < c .zones) × (s < slicesOf c))) ⌝ }
+    requires { ⌜ (TablesAt (now «data») (now «tables_at») c × ((entriesFault (read (now «data»)) ≡ fine) × (ColumnsAt (now plan) (now «columns_at») c × YearPart (now plan) (now outputs) c genKind y))) × ((y < c .years) × ((z < c .zones) × (s < slicesOf c))) ⌝ }
     ensures { λ r. ⌜ r ≡ sidesOf (read (now («data» .entry))) scale (planEntry c (now (plan .entry))) (row 1 y z 0 s) ⌝ }
 {
     let made = zone_sum(data, tables_at, c, outputs, long(z), s);
@@ -77,7 +77,7 @@ pub fn spinning(
     data: &[u32], plan: &[u32], outputs: &[u32], reserves: &[u32], tables_at: &Starts, columns_at: &Starts, c: Counts,
     scale: u64, y: usize, z: usize, s: usize,
 ) -> Sides
-    requires { ⌜ (TablesAt (now «data») (now «tables_at») c × (ColumnsAt (now plan) (now «columns_at») c × (YearPart (now plan) (now outputs) c 3 y × YearPart (now plan) (now reserves) c 4 y))) × ((y < c .years) × ((z < c .zones) × (s < slicesOf c))) ⌝ }
+    requires { ⌜ (TablesAt (now «data») (now «tables_at») c × (ColumnsAt (now plan) (now «columns_at») c × (YearPart (now plan) (now outputs) c genKind y × YearPart (now plan) (now reserves) c reserveKind y))) × ((y < c .years) × ((z < c .zones) × (s < slicesOf c))) ⌝ }
     ensures { λ r. ⌜ r ≡ sidesOf (read (now («data» .entry))) scale (planEntry c (now (plan .entry))) (row 3 y z 0 s) ⌝ }
 {
     let held = zone_sum(data, tables_at, c, reserves, long(z), s);

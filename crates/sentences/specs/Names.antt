@@ -15,6 +15,6 @@ tableNames = bytes "R/V/Dur/minimum-load day/zone/fuel/kind/VRE/GenCap/year/MaxN
 abbrev pub columnNames : List ℕ
 columnNames = bytes "cap/build/retire/gen/reserve/trans/unmet/surplus/spinshort/firmshort"
 
--- the twenty families of rows
+-- the families of rows
 abbrev pub familyNames : List ℕ
 familyNames = bytes "demand balance/transfer limit/spinning reserve/planning reserve/output and reserve/reserve offer/ramp down/ramp up/minimum load/availability/VRE profile/capacity balance/capacity outside its years/build and retirement by kind/new capacity/yearly build/fuel/capital/zone emissions/system emissions"

@@ -21,10 +21,10 @@ use Rattle.sums.proofs.Numbering.{number-bound}
 use Rattle.model.specs.declared.Counts.{Counts}
 use Rattle.model.specs.Counts.{sets, slicesOf}
 use Rattle.model.specs.Data.{tableBoxes, placeOf, dataLength, read, tableCount}
-use Rattle.model.specs.Columns.{columnSets, columnBoxes, kindCount}
+use Rattle.model.specs.Columns.{columnSets, columnBoxes, columnKindCount}
 use Rattle.model.specs.declared.Family.{Family}
 use Rattle.model.specs.Families.{family, families, familyOf, rowBoxes, shapeOf, familyCount}
-use Rattle.tables.specs.Layout.{Counted, Small, Inside, EntryAt, ColumnAt, startFrom, tableSets, planEntry}
+use Rattle.tables.specs.Layout.{Counted, Small, Inside, EntryAt, PlanEntryAt, startFrom, tableSets, planEntry}
 
 -- a product of two numbers with known bounds fits; antt computes the test on the bounds
 pub small : (A B : ℕ) {a b : ℕ} → T (ltb (A * B) (2 ^ 64)) → a ≤ A → b ≤ B → Fits w64 (a * b)
@@ -64,7 +64,7 @@ stored l f {k} {v} h below e =
 
 -- The index sets
 
--- every table, table of columns and family has one of their codes, so the last arm of `box_of` is never reached
+-- every table, kind of column and family has one of their codes, so the last arm of `box_of` is never reached
 abbrev allBelow : ℕ → List ℕ → Bool
 allBelow n [] = true
 allBelow n (k ∷ ks) = ltb k n && allBelow n ks
@@ -158,9 +158,9 @@ pub tables-end : (c : Counts) → startFrom c tableSets 7 tableCount ≡ dataLen
 unfolding dataLength tableBoxes
 tables-end c = start-at c tableSets 7 tableCount (omega arith)
 
-pub columns-end : (c : Counts) → startFrom c columnSets 0 kindCount ≡ count (columnBoxes c)
+pub columns-end : (c : Counts) → startFrom c columnSets 0 columnKindCount ≡ count (columnBoxes c)
 unfolding columnBoxes
-columns-end c = omega (arith, start-at c columnSets 0 kindCount (omega arith))
+columns-end c = omega (arith, start-at c columnSets 0 columnKindCount (omega arith))
 
 -- The two laws that each reader cites, for the data and for the plan
 
@@ -187,7 +187,7 @@ module _ {l tables-at : List ℕ} {c : Counts} {t k y i j s : ℕ} (m : EntryAt 
   unfolding read
   entry-is = ap (λ (n : ℕ). getD l n 0) entry-place
 
-module _ {plan columns-at : List ℕ} {c : Counts} {t k y i j s : ℕ} (m : ColumnAt plan columns-at c t k y i j s) where
+module _ {plan columns-at : List ℕ} {c : Counts} {t k y i j s : ℕ} (m : PlanEntryAt plan columns-at c t k y i j s) where
   abbrev pub columnPlace : ℕ
   columnPlace = getD columns-at t 0 + inside (boxOf (sets c) k) y i j s
 

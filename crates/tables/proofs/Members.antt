@@ -11,7 +11,7 @@ use Rattle.model.specs.declared.Counts.{Counts}
 use Rattle.model.specs.declared.Family.{Family}
 use Rattle.model.specs.Counts.{sets}
 use Rattle.model.specs.Data.{tableBoxes, tableCount}
-use Rattle.model.specs.Columns.{columnSets, columnBoxes, kindCount}
+use Rattle.model.specs.Columns.{columnSets, columnBoxes, columnKindCount}
 use Rattle.model.specs.Families.{family, families, familyOf, rowBoxes, familyCount}
 use Rattle.tables.specs.Layout.{Counted, Inside, tableSets}
 use Rattle.tables.proofs.Laws.{getD-map-in, at-any, box-at}
@@ -30,7 +30,7 @@ module _ (c : Counts) {k y i j s : ℕ} where
   unfolding rowBoxes
   row-inside m = (m .0, member-inside c (rowBoxes c) k (familyOf k .set) (family-box c (m .0)) m)
 
-  pub column-inside : Member (columnBoxes c) (index k y i j s) → (k < kindCount) × Inside c (getD columnSets k 0) y i j s
+  pub column-inside : Member (columnBoxes c) (index k y i j s) → (k < columnKindCount) × Inside c (getD columnSets k 0) y i j s
   unfolding columnBoxes
   column-inside m = (m .0, member-inside c (columnBoxes c) k (getD columnSets k 0) (box-at c columnSets k (m .0)) m)
 

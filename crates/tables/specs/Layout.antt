@@ -80,8 +80,8 @@ pub record EntryAt (l tables-at : List ℕ) (c : Counts) (t k y i j s : ℕ) : T
   pub set : getD tableSets t 0 ≡ k
   pub inside : Inside c k y i j s
 
--- the same of the plan's table of columns t
-pub record ColumnAt (plan columns-at : List ℕ) (c : Counts) (t k y i j s : ℕ) : Type 0 where
+-- the same of the plan's kind of column t
+pub record PlanEntryAt (plan columns-at : List ℕ) (c : Counts) (t k y i j s : ℕ) : Type 0 where
   pub columnsAt : ColumnsAt plan columns-at c
   pub counted : Counted c
   pub table : t < length columnSets

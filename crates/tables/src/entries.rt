@@ -24,7 +24,7 @@ ghost use lib.ListN.{length, getD};
 ghost use Rattle.sums.specs.Index.{index};
 ghost use Rattle.model.specs.Counts.{[yzs], [yzzs], [yz], [yg], [g], [one], [y], [s], [qd], [gq], [gs], [z], [yzzq], [yzz], [yf]};
 ghost use Rattle.model.specs.Data.{read, most32};
-ghost use Rattle.tables.specs.Layout.{EntryAt, ColumnAt, planEntry};
+ghost use Rattle.tables.specs.Layout.{EntryAt, PlanEntryAt, planEntry};
 
 // A number of a list, widened.
 pub fn number_at(list: &[u32], i: usize) -> u64
@@ -151,9 +151,9 @@ pub fn single(data: &[u32], tables_at: &Starts, c: Counts, t: usize) -> u64
 
 // The plan's readers.
 
-// Any entry of the plan: table of columns `t`, the rest as in `entry_in`.
+// Any entry of the plan: kind of column `t`, the rest as in `entry_in`.
 pub fn planned_in(plan: &[u32], columns_at: &Starts, c: Counts, t: usize, k: usize, y: usize, i: usize, j: usize, s: usize) -> u64
-    requires { ⌜ ColumnAt (now plan) (now «columns_at») c t k y i j s ⌝ }
+    requires { ⌜ PlanEntryAt (now plan) (now «columns_at») c t k y i j s ⌝ }
     ensures { λ r. ⌜ (r ≡ planEntry c (now (plan .entry)) (index t y i j s)) × (r ≤ most32) ⌝ }
 {
     let o = inside_of(c, k, y, i, j, s);
@@ -161,28 +161,28 @@ pub fn planned_in(plan: &[u32], columns_at: &Starts, c: Counts, t: usize, k: usi
 }
 
 pub fn planned_by_year_plant(plan: &[u32], columns_at: &Starts, c: Counts, t: usize, y: usize, g: usize) -> u64
-    requires { ⌜ ColumnAt (now plan) (now «columns_at») c t [yg] y g 0 0 ⌝ }
+    requires { ⌜ PlanEntryAt (now plan) (now «columns_at») c t [yg] y g 0 0 ⌝ }
     ensures { λ r. ⌜ (r ≡ planEntry c (now (plan .entry)) (index t y g 0 0)) × (r ≤ most32) ⌝ }
 {
     planned_in(plan, columns_at, c, t, BY_YEAR_PLANT, y, g, 0, 0)
 }
 
 pub fn planned_by_link_slice(plan: &[u32], columns_at: &Starts, c: Counts, t: usize, y: usize, z: usize, w: usize, s: usize) -> u64
-    requires { ⌜ ColumnAt (now plan) (now «columns_at») c t [yzzs] y z w s ⌝ }
+    requires { ⌜ PlanEntryAt (now plan) (now «columns_at») c t [yzzs] y z w s ⌝ }
     ensures { λ r. ⌜ (r ≡ planEntry c (now (plan .entry)) (index t y z w s)) × (r ≤ most32) ⌝ }
 {
     planned_in(plan, columns_at, c, t, BY_LINK_SLICE, y, z, w, s)
 }
 
 pub fn planned_by_zone_slice(plan: &[u32], columns_at: &Starts, c: Counts, t: usize, y: usize, z: usize, s: usize) -> u64
-    requires { ⌜ ColumnAt (now plan) (now «columns_at») c t [yzs] y z 0 s ⌝ }
+    requires { ⌜ PlanEntryAt (now plan) (now «columns_at») c t [yzs] y z 0 s ⌝ }
     ensures { λ r. ⌜ (r ≡ planEntry c (now (plan .entry)) (index t y z 0 s)) × (r ≤ most32) ⌝ }
 {
     planned_in(plan, columns_at, c, t, BY_YEAR_ZONE_SLICE, y, z, 0, s)
 }
 
 pub fn planned_by_year_zone(plan: &[u32], columns_at: &Starts, c: Counts, t: usize, y: usize, z: usize) -> u64
-    requires { ⌜ ColumnAt (now plan) (now «columns_at») c t [yz] y z 0 0 ⌝ }
+    requires { ⌜ PlanEntryAt (now plan) (now «columns_at») c t [yz] y z 0 0 ⌝ }
     ensures { λ r. ⌜ (r ≡ planEntry c (now (plan .entry)) (index t y z 0 0)) × (r ≤ most32) ⌝ }
 {
     planned_in(plan, columns_at, c, t, BY_YEAR_ZONE, y, z, 0, 0)

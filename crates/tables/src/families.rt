@@ -1,4 +1,4 @@
-// The families' numbers, counted from 0.
+// The families' numbers, counted from 0. RAMP_UPWARD is `rampUpward` of the definitions: RAMP_UP is a table of the data.
 pub const BALANCE: usize = 0;
 pub const TRANSFER: usize = 1;
 pub const SPINNING: usize = 2;

@@ -2,5 +2,6 @@
 pub mod entries;
 pub mod families;
 pub mod names;
+pub mod plants;
 pub mod sets;
 pub mod starts;

@@ -70,7 +70,7 @@ pub fn slices_of(c: Counts) -> usize
     c.seasons * c.days * c.hours
 }
 
-// The index set of a code. An unknown code has no members; no table, table of columns or family has one (the law `known-codes`).
+// The index set of a code. An unknown code has no members; no table, kind of column or family has one (the law `known-codes`).
 pub fn box_of(c: Counts, set: usize) -> Box
     requires { ⌜ Counted c ⌝ }
     ensures { λ r. ⌜ (r ≡ boxOf (sets c) set) × Small r ⌝ }

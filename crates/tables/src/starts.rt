@@ -18,7 +18,7 @@ use crate::sets::SINGLE;
 use crate::sets::box_of;
 use crate::sets::members_of;
 use model::Counts;
-use model::KIND_COUNT;
+use model::COLUMN_KIND_COUNT;
 use model::TABLE_COUNT;
 use sums::Box;
 ghost use mathlib.Core.Path.{_≡_};
@@ -26,7 +26,7 @@ ghost use Prim.Native.Nat.{ℕ, _+_, _≤_, _<_};
 ghost use lib.ListN.{length, getD};
 ghost use Rattle.sums.specs.Index.{boxOf};
 ghost use Rattle.model.specs.Counts.{sets};
-ghost use Rattle.model.specs.Columns.{columnSets, kindCount};
+ghost use Rattle.model.specs.Columns.{columnSets, columnKindCount};
 ghost use Rattle.model.specs.Data.{tableCount};
 ghost use Rattle.tables.specs.Layout.{Counted, Small, tableSets, startFrom};
 
@@ -82,7 +82,7 @@ const TABLE_SETS: [usize; TABLE_COUNT] = [
 ];
 
 // The code of each kind of column's index set, in the order of the plan.
-const COLUMN_SETS: [usize; KIND_COUNT] = [
+const COLUMN_SETS: [usize; COLUMN_KIND_COUNT] = [
     BY_YEAR_PLANT, // 0 cap
     BY_YEAR_PLANT, // 1 build
     BY_YEAR_PLANT, // 2 retire
@@ -103,9 +103,9 @@ pub fn table_set(t: usize) -> usize
     TABLE_SETS[t]
 }
 
-// The code of the index set of a table of columns.
+// The code of the index set of a kind of column.
 pub fn column_set(k: usize) -> usize
-    requires { ⌜ k < kindCount ⌝ }
+    requires { ⌜ k < columnKindCount ⌝ }
     ensures { λ r. ⌜ r ≡ getD columnSets k 0 ⌝ }
 {
     COLUMN_SETS[k]
@@ -119,9 +119,9 @@ pub fn table_box(c: Counts, t: usize) -> Box
     box_of(c, table_set(t))
 }
 
-// The index set of a table of columns.
+// The index set of a kind of column.
 pub fn column_box(c: Counts, k: usize) -> Box
-    requires { ⌜ Counted c × (k < kindCount) ⌝ }
+    requires { ⌜ Counted c × (k < columnKindCount) ⌝ }
     ensures { λ r. ⌜ (r ≡ boxOf (sets c) (getD columnSets k 0)) × Small r ⌝ }
 {
     box_of(c, column_set(k))
@@ -155,7 +155,7 @@ pub fn table_starts(c: Counts) -> Starts
 // The starts of the plan's tables.
 pub fn column_starts(c: Counts) -> Starts
     requires { ⌜ Counted c ⌝ }
-    ensures { λ r. ⌜ (length r ≡ tableCount + 1) × ((k : ℕ) → k ≤ kindCount → getD r k 0 ≡ startFrom c columnSets 0 k) ⌝ }
+    ensures { λ r. ⌜ (length r ≡ tableCount + 1) × ((k : ℕ) → k ≤ columnKindCount → getD r k 0 ≡ startFrom c columnSets 0 k) ⌝ }
 {
     let kinds = COLUMN_SETS;
     starts_from(c, &kinds, 0)

@@ -12,7 +12,7 @@ use Rattle.texts.specs.declared.Used.{Used}
 use Rattle.texts.specs.declared.Word.{Word}
 use Rattle.texts.specs.declared.Word.the-variants.{Data, Plan, Scal, Dual, Other}
 use Rattle.texts.specs.Format.{mostData, mostPlan, mostScal, mostDual, signed, withData, withPlan, withScal, withDual}
-use Rattle.texts.specs.Buffers.{mostOf, usedOf, Room, Within, listsIn, Ready, Added}
+use Rattle.texts.specs.Buffers.{mostOf, usedOf, Room, Within, listsIn, RoomForNumber, Added}
 
 -- no more numbers of any word than its buffer holds
 pub within-word : (w : Word) {u : Used} → Within u → usedOf w u ≤ mostOf w
@@ -27,7 +27,7 @@ take-put : {A : Type 0} (b : List A) {b2 : List A} (n : ℕ) {m : ℕ} (x : A) �
 take-put b n x e h = rw (e .0, e .1, add-one) (take-suc-set b n x h)
 
 -- one number more of each word
-module _ {w : Word} {v : ℕ} {u : Used} {d p s : List ℕ} {m : List ℤ} (ready : Ready w v u d p s m) where
+module _ {w : Word} {v : ℕ} {u : Used} {d p s : List ℕ} {m : List ℤ} (ready : RoomForNumber w v u d p s m) where
   pub data-ready : w ≡ Data → (u .«data» < length d) × (v < 2 ^ 32)
   data-ready e = (omega (arith, rw e at (ready .not-full), ready .room .room-data), rw e at (ready .low))
 

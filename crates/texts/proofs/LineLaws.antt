@@ -19,7 +19,7 @@ use Rattle.texts.specs.declared.Used.{Used}
 use Rattle.texts.specs.declared.Word.{Word}
 use Rattle.texts.specs.declared.Word.the-variants.{Data, Plan, Scal, Dual, Other}
 use Rattle.texts.specs.Format.{wordLength, mostOnLine, mostData, mostPlan, mostScal, mostDual, plain, signed, count, numberAt, oneMore, numbers, after, join, Lists, withData, withPlan, withScal, withDual, wordOf, lineOf, addLine}
-use Rattle.texts.specs.Buffers.{digitsOf, mostOf, usedOf, withNumber, listsIn, Room, Within, Ready, Added}
+use Rattle.texts.specs.Buffers.{digitsOf, mostOf, usedOf, withNumber, listsIn, Room, Within, RoomForNumber, Added}
 use Rattle.capped.proofs.Laws.{le-or-lt}
 use Rattle.texts.proofs.NumberLaws.{number-low}
 
@@ -171,7 +171,7 @@ filled-none word l u d p s m r w = record { room = r; within = w; upto = omega a
 
 -- the next number, of n for which there was room
 pub filled-ready : {word : Word} {l : List ℕ} {old : Lists} {used i n v : ℕ} {u : Used} {d p s : List ℕ} {m : List ℤ} → Filled word l old used i u d p s m → i < n → n ≤ mostOf word - used
-    → numberAt l (wordLength + i * (digitsOf word + 1)) (digitsOf word) ≡ Value v → Ready word v u d p s m
+    → numberAt l (wordLength + i * (digitsOf word + 1)) (digitsOf word) ≡ Value v → RoomForNumber word v u d p s m
 filled-ready {word} {l} f h k e =
     record { room = f .room; within = f .within; not-full = omega (arith, f .upto); low = number-low l _ (digitsOf word) e }
 

@@ -75,7 +75,7 @@ withNumber Dual s v = withDual s (s .ofDual ++ (signed v ∷ []))
 withNumber Other s v = s
 
 -- v is a number of the word, and its buffer has room for one more
-pub record Ready (w : Word) (v : ℕ) (u : Used) (d p s : List ℕ) (m : List ℤ) : Type 0 where
+pub record RoomForNumber (w : Word) (v : ℕ) (u : Used) (d p s : List ℕ) (m : List ℤ) : Type 0 where
   pub room : Room d p s m
   pub within : Within u
   pub not-full : usedOf w u < mostOf w

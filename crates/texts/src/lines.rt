@@ -12,7 +12,7 @@ use crate::numbers::signed_of;
 ghost use mathlib.Core.Path.{_≡_};
 ghost use Prim.Native.Nat.{_+_, _^_, _≤_, _<_};
 ghost use lib.ListN.{length, set};
-ghost use Rattle.texts.specs.Buffers.{digitsOf, mostOf, usedOf, Ready, Added, listsIn, lineIn, Room, Within, LineWithin};
+ghost use Rattle.texts.specs.Buffers.{digitsOf, mostOf, usedOf, RoomForNumber, Added, listsIn, lineIn, Room, Within, LineWithin};
 ghost use Rattle.texts.specs.Format.{opensWith, wordOf, count, addLine};
 
 const WORD_LENGTH: usize = 4;
@@ -137,7 +137,7 @@ fn put_signed(buffer: &mut [i64], used: usize, v: i64) -> usize
 
 // One more number of the word, behind those that its buffer holds.
 fn add_number(word: Word, v: u64, used: Used, data: &mut [u32], plan: &mut [u32], scal: &mut [u32], dual: &mut [i64]) -> Used
-    requires { ⌜ Ready word v used (now «data») (now plan) (now scal) (now dual) ⌝ }
+    requires { ⌜ RoomForNumber word v used (now «data») (now plan) (now scal) (now dual) ⌝ }
     ensures { λ r. ⌜ Added word v used (now («data» .entry)) (now (plan .entry)) (now (scal .entry)) (now (dual .entry)) r (now («data» .exit)) (now (plan .exit)) (now (scal .exit)) (now (dual .exit)) ⌝ }
 {
     match word {

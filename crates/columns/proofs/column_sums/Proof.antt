@@ -3,7 +3,7 @@ use mathlib.Core.Path.{refl, _∙_}
 use native.Mathlib.Omega.{arith}
 use Rattle.sums.proofs.ByKind.{only-zero}
 use Rattle.model.specs.Standing.{standing⁺, standing⁻}
-use Rattle.model.specs.Columns.{kindCount}
+use Rattle.model.specs.Columns.{columnKindCount}
 use Rattle.tables.proofs.Laws.{last-arm}
 use Rattle.tables.proofs.Members.{column-inside}
 use Rattle.columns.proofs.Arms.{own-indices, by-first, by-slice, by-second, zone-by-slice, zone-row, column-is}
@@ -39,7 +39,7 @@ shortfall-column-requires-2 c κs = zone-row 8 (c .match .keys9) (c .before .bef
 
 shortfall-column-requires-3 : tie.Need-shortfall-column-requires-3
 shortfall-column-requires-3 c κs =
-    let p = c .before .before .pre in zone-row 9 (last-arm (kindCount - 1) (column-inside _ (p .1) .0) (c .match .rest)) p 3 (omega arith) refl (omega arith)
+    let p = c .before .before .pre in zone-row 9 (last-arm (columnKindCount - 1) (column-inside _ (p .1) .0) (c .match .rest)) p 3 (omega arith) refl (omega arith)
 
 returns : tie.Need-returns
 unfolding standing⁺ standing⁻
@@ -81,7 +81,7 @@ returns-10 : tie.Need-returns-10
 unfolding standing⁺ standing⁻
 returns-10 c =
     let p = c .before .before .before .pre in
-    let e = last-arm (kindCount - 1) (column-inside _ (p .1) .0) (c .before .match .rest) in
+    let e = last-arm (columnKindCount - 1) (column-inside _ (p .1) .0) (c .before .match .rest) in
     column-is 9 e p (c .shortfall-column3 .ensures ∙ rw (only-zero (own-indices 9 e p .slice)))
 
 pub column-sums-spec : {M : Type 1} → statement M

@@ -88,8 +88,8 @@ loop4-holds c = begin
 loop5-holds : here tie.Need-loop5-holds
 loop5-holds c = begin
 
-add-row-requires : here tie.Need-add-row-requires
-add-row-requires c κs =
+add-term-requires : here tie.Need-add-term-requires
+add-term-requires c κs =
     let c4 = c .before .before .before .before in
     let c8 = c4 .before .before .before .before in
     let c12 = c8 .before .before .before .before in
@@ -106,7 +106,7 @@ loop5-less c = search needs
 
 loop5-again : here tie.Need-loop5-again
 unfolding withTerm
-loop5-again c = add (c .before .before .loop5 .inv) (c .before .loop5-test .taken) (c .add-row .ensures)
+loop5-again c = add (c .before .before .loop5 .inv) (c .before .loop5-test .taken) (c .add-term .ensures)
 
 add-j : here tie.Need-add-j
 add-j c = search needs
@@ -179,7 +179,7 @@ constant-terms-spec =
     loop3-holds
     loop4-holds
     loop5-holds
-    add-row-requires
+    add-term-requires
     add-s
     loop5-less
     loop5-again

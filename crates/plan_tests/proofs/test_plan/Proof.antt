@@ -1,5 +1,4 @@
 use Rattle.plan_tests.proofs.Laws.{scale-zero, scale-large, plan-short, plan-fits}
-use borrow.Author.Needs.{needs}
 use Rattle.plan_tests.proofs.test_plan.Statement.{statement}
 use Rattle.plan_tests.proofs.test_plan.Tie as tie
 

@@ -3,7 +3,7 @@ use Prim.Native.Nat.{_*_, _-_}
 use native.Mathlib.Omega.{arith}
 use Rattle.sums.specs.Index.{index}
 use Rattle.model.specs.Data.{read}
-use Rattle.model.specs.Columns.{columnBoxes, kindCount}
+use Rattle.model.specs.Columns.{columnBoxes, columnKindCount}
 use Rattle.model.specs.Tests.{columnFault}
 use Rattle.tables.proofs.Steps.{Going, Walked, ofSecond, ofFirst, ofYear, yearMembers, none, more, turn, walked-none, walked-more, walked-all}
 use Rattle.tables.proofs.Steps.{member-number, member-below, stopped, outcome-fine, outcome-fails}
@@ -45,7 +45,7 @@ abbrev Inv-walk : tie.InvT-walk
 Inv-walk «data» ms tables-at rows-at c answer₀ column₀ k₀ answer column k = Walked (columnFault (read «data») ms) (columnBoxes c) k column answer
 
 abbrev μ-walk : tie.MeasureT-walk
-μ-walk «data» ms tables-at rows-at c answer₀ column₀ k₀ answer column k = kindCount - k
+μ-walk «data» ms tables-at rows-at c answer₀ column₀ k₀ answer column k = columnKindCount - k
 
 -- every need takes the ten
 abbrev here :

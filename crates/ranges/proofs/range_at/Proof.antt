@@ -1,7 +1,7 @@
 use mathlib.Core.Path.{ap, _∙_}
 use Rattle.model.specs.Data.{read}
 use Rattle.ranges.specs.Ranges.{ranged}
-use Rattle.ranges.proofs.Within.{kind-entry, fixed-is}
+use Rattle.ranges.proofs.Within.{fixed-is}
 use borrow.Author.Needs.{needs}
 use Rattle.ranges.proofs.range_at.Statement.{statement}
 use Rattle.ranges.proofs.range_at.Tie as tie
@@ -13,19 +13,19 @@ below-requires-2 : tie.Need-below-requires-2
 below-requires-2 c κs = search needs
 
 is-existing-requires : tie.Need-is-existing-requires
-is-existing-requires c κs = kind-entry (c .before .before .pre .0) (rw (c .match .keys3) at (c .before .before .pre .1 .1))
+is-existing-requires c κs = (c .before .before .pre .0, rw (c .match .keys3) at (c .before .before .pre .1 .1))
 
 any-if-requires : tie.Need-any-if-requires
 any-if-requires c κs = search needs
 
 is-existing-requires-2 : tie.Need-is-existing-requires-2
-is-existing-requires-2 c κs = kind-entry (c .before .before .pre .0) (rw (c .match .keys4) at (c .before .before .pre .1 .1))
+is-existing-requires-2 c κs = (c .before .before .pre .0, rw (c .match .keys4) at (c .before .before .pre .1 .1))
 
 plant-year-requires : tie.Need-plant-year-requires
 plant-year-requires c κs = search needs
 
 is-existing-requires-3 : tie.Need-is-existing-requires-3
-is-existing-requires-3 c κs = kind-entry (c .before .before .pre .0) (rw (c .match .keys5) at (c .before .before .pre .1 .1))
+is-existing-requires-3 c κs = (c .before .before .pre .0, rw (c .match .keys5) at (c .before .before .pre .1 .1))
 
 none-if-requires : tie.Need-none-if-requires
 none-if-requires c κs = search needs
