@@ -1,9 +1,9 @@
 -- What the functions of the families cite: a constant from the answers of the calls that make it, the tests that decide whether a row has
 -- one, and what the readers ask. Assumes nothing.
-use mathlib.Core.Path.{_≡_, refl, sym, ap₂, _∙_}
+use mathlib.Core.Path.{_≡_, refl, sym, ap, ap₂, _∙_}
 use mathlib.Core.Bool.{Bool, true, false, _&&_, _||_}
 use mathlib.Core.List.{List, [], _∷_}
-use Prim.Native.Nat.{ℕ, _*_, _≤_, _<_}
+use Prim.Native.Nat.{ℕ, zero, suc, _+_, _*_, _≤_, _<_}
 use native.Mathlib.Omega.{arith}
 use lib.Dec.{eqb}
 use lib.ListN.{getD}
@@ -14,7 +14,7 @@ use Rattle.sums.specs.Index.{index, Member}
 use Rattle.sums.proofs.Lists.{Alls, at-place, _and_}
 use Rattle.model.specs.declared.Counts.{Counts}
 use Rattle.model.specs.Data.{Data, read, ee, prm, tableBoxes, afterFirstHour, onMinLoadDay, isVre}
-use Rattle.model.specs.Families.{Equation, familyOf, equations, rowBoxes, empty, outOfService, loading, offer, rampDown, rampUpward, minimumLoad, available, profiled, life, fixed, familyCount}
+use Rattle.model.specs.Families.{Equation, familyOf, equation, equations, rowBoxes, empty, outOfService, familyCount}
 use Rattle.model.specs.Tests.{entriesFault}
 use Rattle.model.proofs.Sound.{entry-range}
 use Rattle.tables.specs.Layout.{TablesAt, Inside}
@@ -51,7 +51,7 @@ NoneUnless false e = (e .plus ≡ 0) × (e .minus ≡ 0)
 
 module _ (D : Data) (y i j s : ℕ) where
   each-without : Alls (λ k e. NoneUnless (hasConstant k) e) (equations D y i j s)
-  unfolding hasConstant loading offer rampDown rampUpward minimumLoad available profiled life fixed
+  unfolding hasConstant equation
   each-without =
       tt and tt and tt and tt
       and (refl, refl) and (refl, refl)
@@ -113,12 +113,20 @@ none-among k (a ∷ l) h = let t = none-among k l h in (t .0 .0, rw (ne-eqb k a 
 abbrev arms : List ℕ
 arms = 0 ∷ 1 ∷ 2 ∷ 3 ∷ 11 ∷ 14 ∷ 15 ∷ 16 ∷ 17 ∷ 18 ∷ 19 ∷ []
 
+-- flags that are those of a test, place by place
+abbrev flags : (ℕ → Bool) → ℕ → ℕ → List Bool
+flags f from zero = []
+flags f from (suc n) = f from ∷ flags f (suc from) n
+
+flag-at : (f : ℕ → Bool) (from n : ℕ) (k : ℕ) → k < n → getD (flags f from n) k false ≡ f (from + k)
+flag-at f from zero k h = absurd (omega arith)
+flag-at f from (suc n) zero h = let e : from ≡ from + 0 = omega arith in ap f e
+flag-at f from (suc n) (suc k) h = let e : suc from + k ≡ from + suc k = omega arith in flag-at f (suc from) n k (omega arith) ∙ ap f e
+
+-- the list of flags is computed from the arms
 arms-are : (k : ℕ) → k < familyCount → hasConstant k ≡ among arms k
 unfolding hasConstant
-arms-are =
-    at-place (λ k b. b ≡ among arms k) constantFamilies false
-    (refl and refl and refl and refl and refl and refl and refl and refl and refl and refl
-    and refl and refl and refl and refl and refl and refl and refl and refl and refl and refl and tt)
+arms-are k l = let e : 0 + k ≡ k = omega arith in flag-at (among arms) 0 familyCount k l ∙ ap (among arms) e
 
 pub without-arm : (k : ℕ) → k < familyCount → NoneAmong (Unit {0}) arms k → hasConstant k ≡ false
 without-arm k l h = arms-are k l ∙ none-among k arms h .1

@@ -9,7 +9,7 @@ use Rattle.rows.proofs.families.row_sides.Tie as tie
 
 balance-requires : tie.Need-balance-requires
 unfolding familyOf
-balance-requires c κs = let m = inside-at _ (c .match .keys1) (c .before .before .before .before .before .pre .1 .1) in search needs
+balance-requires c κs = let m = inside-at _ (c .match .keys1) (c .before .before .before .before .before .pre .1 .1) in (search needs, search needs)
 
 transfer-requires : tie.Need-transfer-requires
 unfolding familyOf
@@ -17,77 +17,77 @@ transfer-requires c κs = let m = inside-at _ (c .match .keys2) (c .before .befo
 
 spinning-requires : tie.Need-spinning-requires
 unfolding familyOf
-spinning-requires c κs = let m = inside-at _ (c .match .keys3) (c .before .before .before .before .before .pre .1 .1) in search needs
+spinning-requires c κs = let m = inside-at _ (c .match .keys3) (c .before .before .before .before .before .pre .1 .1) in (search needs, search needs)
 
 firm-requires : tie.Need-firm-requires
 unfolding familyOf
-firm-requires c κs = let m = inside-at _ (c .match .keys4) (c .before .before .before .before .before .pre .1 .1) in search needs
+firm-requires c κs = let m = inside-at _ (c .match .keys4) (c .before .before .before .before .before .pre .1 .1) in (search needs, search needs)
 
 loading-requires : tie.Need-loading-requires
 unfolding familyOf
-loading-requires c κs = let m = inside-at _ (c .match .keys5) (c .before .before .before .before .before .pre .1 .1) in search needs
+loading-requires c κs = let m = inside-at _ (c .match .keys5) (c .before .before .before .before .before .pre .1 .1) in (search needs, search needs)
 
 offer-requires : tie.Need-offer-requires
 unfolding familyOf
-offer-requires c κs = let m = inside-at _ (c .match .keys6) (c .before .before .before .before .before .pre .1 .1) in search needs
+offer-requires c κs = let m = inside-at _ (c .match .keys6) (c .before .before .before .before .before .pre .1 .1) in (search needs, search needs)
 
 ramp-down-requires : tie.Need-ramp-down-requires
 unfolding familyOf
-ramp-down-requires c κs = let m = inside-at _ (c .match .keys7) (c .before .before .before .before .before .pre .1 .1) in search needs
+ramp-down-requires c κs = let m = inside-at _ (c .match .keys7) (c .before .before .before .before .before .pre .1 .1) in (search needs, search needs)
 
 ramp-up-requires : tie.Need-ramp-up-requires
 unfolding familyOf
-ramp-up-requires c κs = let m = inside-at _ (c .match .keys8) (c .before .before .before .before .before .pre .1 .1) in search needs
+ramp-up-requires c κs = let m = inside-at _ (c .match .keys8) (c .before .before .before .before .before .pre .1 .1) in (search needs, search needs)
 
 minimum-load-requires : tie.Need-minimum-load-requires
 unfolding familyOf
-minimum-load-requires c κs = let m = inside-at _ (c .match .keys9) (c .before .before .before .before .before .pre .1 .1) in search needs
+minimum-load-requires c κs = let m = inside-at _ (c .match .keys9) (c .before .before .before .before .before .pre .1 .1) in (search needs, search needs)
 
 available-requires : tie.Need-available-requires
 unfolding familyOf
-available-requires c κs = let m = inside-at _ (c .match .keys10) (c .before .before .before .before .before .pre .1 .1) in search needs
+available-requires c κs = let m = inside-at _ (c .match .keys10) (c .before .before .before .before .before .pre .1 .1) in (search needs, search needs)
 
 profiled-requires : tie.Need-profiled-requires
 unfolding familyOf
-profiled-requires c κs = let m = inside-at _ (c .match .keys11) (c .before .before .before .before .before .pre .1 .1) in search needs
+profiled-requires c κs = let m = inside-at _ (c .match .keys11) (c .before .before .before .before .before .pre .1 .1) in (search needs, search needs)
 
 stock-requires : tie.Need-stock-requires
 unfolding familyOf
-stock-requires c κs = let m = inside-at _ (c .match .keys12) (c .before .before .before .before .before .pre .1 .1) in search needs
+stock-requires c κs = let m = inside-at _ (c .match .keys12) (c .before .before .before .before .before .pre .1 .1) in (search needs, search needs)
 
 life-requires : tie.Need-life-requires
 unfolding familyOf
-life-requires c κs = let m = inside-at _ (c .match .keys13) (c .before .before .before .before .before .pre .1 .1) in search needs
+life-requires c κs = let m = inside-at _ (c .match .keys13) (c .before .before .before .before .before .pre .1 .1) in (search needs, search needs)
 
 fixed-requires : tie.Need-fixed-requires
 unfolding familyOf
-fixed-requires c κs = let m = inside-at _ (c .match .keys14) (c .before .before .before .before .before .pre .1 .1) in search needs
+fixed-requires c κs = let m = inside-at _ (c .match .keys14) (c .before .before .before .before .before .pre .1 .1) in (search needs, search needs)
 
 new-capacity-requires : tie.Need-new-capacity-requires
 unfolding familyOf
-new-capacity-requires c κs = let m = inside-at _ (c .match .keys15) (c .before .before .before .before .before .pre .1 .1) in search needs
+new-capacity-requires c κs = let m = inside-at _ (c .match .keys15) (c .before .before .before .before .before .pre .1 .1) in (search needs, search needs)
 
 yearly-build-requires : tie.Need-yearly-build-requires
 unfolding familyOf
-yearly-build-requires c κs = let m = inside-at _ (c .match .keys16) (c .before .before .before .before .before .pre .1 .1) in search needs
+yearly-build-requires c κs = let m = inside-at _ (c .match .keys16) (c .before .before .before .before .before .pre .1 .1) in (search needs, search needs)
 
 fuel-use-requires : tie.Need-fuel-use-requires
 unfolding familyOf
-fuel-use-requires c κs = let m = inside-at _ (c .match .keys17) (c .before .before .before .before .before .pre .1 .1) in search needs
+fuel-use-requires c κs = let m = inside-at _ (c .match .keys17) (c .before .before .before .before .before .pre .1 .1) in (search needs, search needs)
 
 capital-requires : tie.Need-capital-requires
 unfolding familyOf
-capital-requires c κs = let m = inside-at _ (c .match .keys18) (c .before .before .before .before .before .pre .1 .1) in search needs
+capital-requires c κs = let m = inside-at _ (c .match .keys18) (c .before .before .before .before .before .pre .1 .1) in (search needs, search needs)
 
 zone-emission-requires : tie.Need-zone-emission-requires
 unfolding familyOf
-zone-emission-requires c κs = let m = inside-at _ (c .match .keys19) (c .before .before .before .before .before .pre .1 .1) in search needs
+zone-emission-requires c κs = let m = inside-at _ (c .match .keys19) (c .before .before .before .before .before .pre .1 .1) in (search needs, search needs)
 
 system-emission-requires : tie.Need-system-emission-requires
 unfolding familyOf
 system-emission-requires c κs =
     let p = c .before .before .before .before .before .pre in
-    let m = inside-at _ (last-arm (familyCount - 1) (p .1 .0) (c .match .rest)) (p .1 .1) in search needs
+    let m = inside-at _ (last-arm (familyCount - 1) (p .1 .0) (c .match .rest)) (p .1 .1) in (search needs, search needs)
 
 returns : tie.Need-returns
 unfolding sidesOf
