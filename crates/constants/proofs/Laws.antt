@@ -1,7 +1,7 @@
 -- What the functions of the families cite: a constant from the answers of the calls that make it, the tests that decide whether a row has
 -- one, and what the readers ask. Assumes nothing.
 use mathlib.Core.Path.{_≡_, refl, sym, ap, ap₂, _∙_}
-use mathlib.Core.Bool.{Bool, true, false, _&&_, _||_}
+use mathlib.Core.Bool.{Bool, true, false, _&&_}
 use mathlib.Core.List.{List, [], _∷_}
 use Prim.Native.Nat.{ℕ, zero, suc, _+_, _*_, _≤_, _<_}
 use native.Mathlib.Omega.{arith}
@@ -17,9 +17,10 @@ use Rattle.model.specs.Data.{Data, read, ee, prm, tableBoxes, afterFirstHour, o
 use Rattle.model.specs.Families.{Equation, familyOf, equation, equations, rowBoxes, empty, outOfService, familyCount}
 use Rattle.model.specs.Tests.{entriesFault}
 use Rattle.model.proofs.Sound.{entry-range}
+use Rattle.tables.proofs.Laws.{among, NoneAmong, none-among}
 use Rattle.tables.specs.Layout.{TablesAt, Inside}
 use Rattle.constants.specs.declared.Constant.{Constant}
-use Rattle.constants.specs.Constants.{constantOf, noConstant, constantFamilies, hasConstant}
+use Rattle.constants.specs.Constants.{constantOf, noConstant, hasConstant}
 
 -- Constants
 
@@ -94,20 +95,6 @@ inside-at K e m = rw e at m
 
 pub member-at : (c : Counts) {k y i j s : ℕ} (K : ℕ) → k ≡ K → Member (rowBoxes c) (index k y i j s) → Member (rowBoxes c) (index K y i j s)
 member-at c K e m = rw e at m
-
--- k is one of some keys
-abbrev among : List ℕ → ℕ → Bool
-among [] k = false
-among (a ∷ l) k = eqb k a || among l k
-
--- k is none of them, as the last arm of a `match` over the keys knows it
-abbrev NoneAmong : Type 0 → List ℕ → ℕ → Type 0
-NoneAmong R [] k = R
-NoneAmong R (a ∷ l) k = NoneAmong (R × (k ≡ a → ⊥)) l k
-
-none-among : {R : Type 0} (k : ℕ) (l : List ℕ) → NoneAmong R l k → R × (among l k ≡ false)
-none-among k [] h = (h, refl)
-none-among k (a ∷ l) h = let t = none-among k l h in (t .0 .0, rw (ne-eqb k a (t .0 .1), t .1))
 
 -- the families that have an arm of their own
 abbrev arms : List ℕ

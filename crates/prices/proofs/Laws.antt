@@ -1,7 +1,7 @@
 -- Laws of the prices and of the cost. Assumes nothing.
 use mathlib.Core.Path.{_≡_, refl, sym, _∙_, ap}
-use mathlib.Core.Bool.{not}
-use mathlib.Core.List.{List}
+use mathlib.Core.Bool.{Bool, true, false, not, cond}
+use mathlib.Core.List.{List, [], _∷_}
 use Prim.Native.Nat.{ℕ, _+_, _*_, _-_, _≤_, _<_}
 use native.Mathlib.Nat.{zero-add, add-zero, add-assoc, zero-mul, mul-one, mul-comm, mul-assoc, mul-left-comm, mul-pos}
 use native.Mathlib.Omega.{arith}
@@ -23,7 +23,7 @@ use Rattle.model.specs.Data.{Data, duration, genCost, tax, emission}
 use Rattle.model.specs.Columns.{columnBoxes, columnKindCount}
 use Rattle.model.specs.Prices.{price, cost, yearWeight}
 use Rattle.tables.specs.Layout.{Inside, PlanEntryAt, planEntry}
-use Rattle.tables.proofs.Laws.{columnPlace, column-below, column-is}
+use Rattle.tables.proofs.Laws.{columnPlace, column-below, column-is, among, NoneAmong, none-among}
 use Rattle.prices.specs.Costs.{Hourly, Hours, gen, reserve, unmet, surplus, spinshort, setOf, firstsOf, hourPrice, unitPrice, hoursOf, slicesCost, hoursCost, yearCost}
 
 -- Capped sums
@@ -90,23 +90,30 @@ module _ (D : Data) (c : Counts) (x : Index → ℕ) {t : ℕ} (h : Hourly t) (y
 
 -- A column's price in two factors
 
--- none of the tables that are not priced by the hour: what the last arm of a `match` on the table knows
-abbrev Rest : ℕ → Type 0
-Rest k = ((((Unit {0} × (k ≡ 0 → ⊥)) × (k ≡ 1 → ⊥)) × (k ≡ 2 → ⊥)) × (k ≡ 5 → ⊥)) × (k ≡ 9 → ⊥)
+-- the kinds of column that are not priced by the hour
+abbrev byUnit : List ℕ
+byUnit = 0 ∷ 1 ∷ 2 ∷ 5 ∷ 9 ∷ []
 
-pub rest-hourly : (k : ℕ) → k < columnKindCount → Rest k → Hourly k
-rest-hourly =
+not-both : {A : Type 0} → true ≡ false → A
+not-both e = let z : _≡_ {A = ℕ} 0 1 = ap (λ (b : Bool). cond b 0 1) e in absurd (omega arith)
+
+others-hourly : (k : ℕ) → k < columnKindCount → among byUnit k ≡ false → Hourly k
+others-hourly =
     (λ i l. absurd (omega arith))
-    ▹ (λ r. absurd (r .0 .0 .0 .0 .1 refl))
-    ▹ (λ r. absurd (r .0 .0 .0 .1 refl))
-    ▹ (λ r. absurd (r .0 .0 .1 refl))
-    ▹ (λ r. gen)
-    ▹ (λ r. reserve)
-    ▹ (λ r. absurd (r .0 .1 refl))
-    ▹ (λ r. unmet)
-    ▹ (λ r. surplus)
-    ▹ (λ r. spinshort)
-    ▹ (λ r. absurd (r .1 refl))
+    ▹ not-both
+    ▹ not-both
+    ▹ not-both
+    ▹ (λ e. gen)
+    ▹ (λ e. reserve)
+    ▹ not-both
+    ▹ (λ e. unmet)
+    ▹ (λ e. surplus)
+    ▹ (λ e. spinshort)
+    ▹ not-both
+
+-- what the last arm of a `match` over the others knows
+pub rest-hourly : (k : ℕ) → k < columnKindCount → NoneAmong (Unit {0}) byUnit k → Hourly k
+rest-hourly k l h = others-hourly k l (none-among k byUnit h .1)
 
 -- a column's price is that of its unit times its hours
 module _ (D : Data) (y i j s : ℕ) where

@@ -1,15 +1,16 @@
 -- Index sets, starts and places: what the readers of entries cite. Assumes nothing.
 use mathlib.Core.Path.{_≡_, refl, sym, ap, _∙_, subst}
-use mathlib.Core.Bool.{Bool, true, false, _&&_}
+use mathlib.Core.Bool.{Bool, true, false, _&&_, _||_}
 use mathlib.Core.Logic.{⊎-elim}
 use mathlib.Core.List.{List, [], _∷_, map}
 use Prim.Native.Nat.{ℕ, zero, suc, _+_, _*_, _^_, _≤_, _<_, zero-le}
 use native.Mathlib.Nat.{mul-le-mul, lt-of-le-of-lt, eq-or-lt-of-le}
 use native.Mathlib.Omega.{arith}
-use lib.Dec.{T, ltb, lit<}
+use lib.Dec.{T, ltb, eqb, lit<}
 use lib.ListN.{length, getD, set, length-map}
 use lib.Seq.{ext-getD, getD-set-same, getD-set-other}
 use borrow.Author.Count.{below-more}
+use borrow.Author.Tests.{ne-eqb}
 use mir.Syntax.{w64}
 use mir.Val.{Fits}
 use Rattle.sums.specs.declared.Box.{Box}
@@ -42,6 +43,20 @@ none-of (suc n) h = ⊎-elim (λ e. absurd (h .1 (sym e))) (λ l. l) (eq-or-lt-o
 -- so of numbers below n + 1 it is n: the key of the last arm
 pub last-arm : (n : ℕ) {x : ℕ} → x < n + 1 → NoneOf n x → x ≡ n
 last-arm n l h = let m = none-of n h in omega arith
+
+-- k is one of some keys
+abbrev pub among : List ℕ → ℕ → Bool
+among [] k = false
+among (a ∷ l) k = eqb k a || among l k
+
+-- k is none of them, as the last arm of a `match` over the keys knows it
+abbrev pub NoneAmong : Type 0 → List ℕ → ℕ → Type 0
+NoneAmong R [] k = R
+NoneAmong R (a ∷ l) k = NoneAmong (R × (k ≡ a → ⊥)) l k
+
+pub none-among : {R : Type 0} (k : ℕ) (l : List ℕ) → NoneAmong R l k → R × (among l k ≡ false)
+none-among k [] h = (h, refl)
+none-among k (a ∷ l) h = let t = none-among k l h in (t .0 .0, rw (ne-eqb k a (t .0 .1), t .1))
 
 module _ {A : Type 0} where
   -- what holds of each entry of a list and of the default holds at any place
