@@ -12,11 +12,11 @@ use Rattle.duals.proofs.row_starts.Statement.{statement}
 use Rattle.duals.proofs.row_starts.Tie as tie
 
 abbrev Inv-loop : tie.InvT-loop
-Inv-loop shape rat₀ next₀ k₀ rows-at next k =
+Inv-loop shape rows-at₀ next₀ k₀ rows-at next k =
     (k ≤ familyCount) × (length rows-at ≡ familyCount + 1) × (next ≡ start (rowBoxes (shape .counts)) k) × (next ≤ k * 983040) × ((i : ℕ) → i < k + 1 → getD rows-at i 0 ≡ start (rowBoxes (shape .counts)) i)
 
 abbrev μ-loop : tie.MeasureT-loop
-μ-loop shape rat₀ next₀ k₀ rows-at next k = familyCount - k
+μ-loop shape rows-at₀ next₀ k₀ rows-at next k = familyCount - k
 
 loop-holds : tie.Need-loop-holds Inv-loop μ-loop
 unfolding sum
