@@ -21,11 +21,12 @@
  * A list is a pointer to its first element and its length in elements.
  *
  * data         Seven counts: zones Z, plants G, fuels F, seasons Q, days of a
- *              season D, hours of a day T, years Y. Then 42 tables: plants,
- *              demand, cables, prices, limits.
+ *              season D, hours of a day T, years Y. Then 45 tables: plants,
+ *              demand, cables, prices, limits, batteries.
  * scale        N, 1 to 1000: the plan's entries are whole Nths of their unit.
  * plan         One entry for each column: capacity, generation, reserve,
- *              flow, unmet demand and the others, in docs/FORMAT.md's order.
+ *              flow, unmet demand, charge and the others, in docs/FORMAT.md's
+ *              order.
  * multipliers  One for each row, a row being an equation at its indices: the
  *              solver's dual of it, in millionths of a money unit for one
  *              unit of the row's value. FORMAT.md has the units and signs.
@@ -47,13 +48,14 @@
  *             2^62 - 1
  *     out[1]  the gap, below 2^63, from epm_certify; 0 from the others
  *
- * or it returns a refusal's number, 1 to 14, and writes
+ * or it returns a refusal's number, 1 to 14 or 16, and writes
  *
  *     out[0]  the refusal's place (see enum epm_answer)
  *     out[1]  0
  *
  * The tests run in the order of their numbers, and the first that fails is
- * answered. There is one exception: data shorter than 7 is tested before 1.
+ * answered. There are two exceptions: data shorter than 7 is tested before 1,
+ * and 16 is tested between 3 and 4.
  * A call returns EPM_OUT_TOO_SHORT, and writes nothing anywhere, where
  * out_len is below 2.
  *
@@ -126,17 +128,18 @@ enum epm_answer {
     EPM_GAP_OFF_SCALE = 13,    /* a sum of the gap passes 2^62 - 1; 0 */
     EPM_BOARD = 14,            /* there is no such year, or the board has too few places from start on; 0 */
     /* 15, Frame, is for the text input of the program certify. No call returns it. */
+    EPM_STORAGE = 16,          /* a battery has VRE set; the lowest such plant. After 3, before 4 */
     EPM_OUT_TOO_SHORT = 255    /* out_len is below 2; nothing is written */
 };
 
-/* Tests the plan against every equation and prices it. Returns EPM_ACCEPTED, 1 to 8, or EPM_OUT_TOO_SHORT. */
+/* Tests the plan against every equation and prices it. Returns EPM_ACCEPTED, 1 to 8, EPM_STORAGE, or EPM_OUT_TOO_SHORT. */
 uint32_t epm_check(const uint32_t *data, size_t data_len, uint32_t scale,
                    const uint32_t *plan, size_t plan_len,
                    uint64_t *out, size_t out_len);
 
 /*
  * The tests of epm_check, then those of the multipliers; works out the gap.
- * Returns EPM_ACCEPTED, 1 to 13, or EPM_OUT_TOO_SHORT.
+ * Returns EPM_ACCEPTED, 1 to 13, EPM_STORAGE, or EPM_OUT_TOO_SHORT.
  *
  * The gap may be larger than the cost, so that out[0] - out[1] wraps around:
  * compare first. A gap as large as the cost says nothing about other plans.
@@ -150,9 +153,9 @@ uint32_t epm_certify(const uint32_t *data, size_t data_len, uint32_t scale,
 /*
  * The tests of epm_check, then that the year and the board's places exist;
  * writes the year's generation to board[start] and the places after it.
- * Returns EPM_ACCEPTED, 1 to 8, EPM_BOARD, or EPM_OUT_TOO_SHORT. The board is
- * written only where EPM_ACCEPTED is returned, and only in its G*Q*D*T places
- * from start on.
+ * Returns EPM_ACCEPTED, 1 to 8, EPM_BOARD, EPM_STORAGE, or EPM_OUT_TOO_SHORT.
+ * The board is written only where EPM_ACCEPTED is returned, and only in its
+ * G*Q*D*T places from start on.
  */
 uint32_t epm_post(const uint32_t *data, size_t data_len, uint32_t scale,
                   const uint32_t *plan, size_t plan_len, size_t year,

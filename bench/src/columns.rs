@@ -112,10 +112,16 @@ impl Columns<'_> {
             let load = self.m(4)[y * v.z + z];
             self.narrow(price, load)?;
         }
+        for (y, g) in pairs(v.y, v.g) {
+            self.charge(y, g)?;
+        }
+        for (y, g) in pairs(v.y, v.g) {
+            self.level(y, g)?;
+        }
         Ok(())
     }
 
-    /// Families 4 to 13 and 18. The terms of the slices fit `u64` by sign.
+    /// Families 4 to 13, 18 and 22 to 24. The terms of the slices fit `i64` by sign.
     fn cap(&self, y: usize, g: usize) -> (u64, SignedSum) {
         let v = self.view;
         let plant = y * v.g + g;
@@ -126,8 +132,8 @@ impl Columns<'_> {
         let least = by_plant(Table::MinCapFac);
         let profile = &v.table(Table::Profile)[g * v.s..(g + 1) * v.s];
         let slices = plant * v.s..(plant + 1) * v.s;
-        let [m5, m6, m7, m8, m9, m11] =
-            [5, 6, 7, 8, 9, 11].map(|family| &self.m(family)[slices.clone()]);
+        let [m5, m6, m7, m8, m9, m11, m22, m23, m24] =
+            [5, 6, 7, 8, 9, 11, 22, 23, 24].map(|family| &self.m(family)[slices.clone()]);
         let (mut positive, mut negative) = (0, 0);
         for s in 0..v.s {
             positive += times(over, m5[s]) + times(offer, m6[s]);
@@ -139,6 +145,12 @@ impl Columns<'_> {
             }
             if v.is_vre(g) {
                 positive += times(profile[s], m11[s]);
+            }
+            if v.is_battery(g) {
+                positive += m22[s];
+                if s % v.day > 0 {
+                    positive += times(down, m23[s]) + times(up, m24[s]);
+                }
             }
         }
         sum.add(i128::from(positive));
@@ -187,7 +199,7 @@ impl Columns<'_> {
         }
     }
 
-    /// Families 1, 3, 5, 7 to 11, 17, 19 and 20, slice by slice.
+    /// Families 1, 3, 5, 7 to 11, 17 and 19 to 21, slice by slice.
     fn gen(&mut self, y: usize, g: usize) -> Result<(), Refusal> {
         let v = self.view;
         let (plant, z) = (y * v.g + g, v.zone_of(g));
@@ -203,6 +215,9 @@ impl Columns<'_> {
             let (row, hours) = (plant * v.s + s, v.table(Table::Duration)[s]);
             let mut sum = SignedSum::default();
             sum.add(i128::from(1000 * self.m(1)[zone * v.s + s]));
+            if v.is_battery(g) {
+                sum.add(i128::from(1000 * self.m(21)[row]));
+            }
             let mut negative = 1000 * self.m(5)[row];
             let mut positive = 0;
             if v.is_vre(g) {
@@ -274,7 +289,48 @@ impl Columns<'_> {
         Ok(())
     }
 
-    /// Refusal 13, then cost + N·Σ m·k. Families 5 to 11, 13 and 14 have no
+    /// Families 1 and 22; of a battery also 21, 23 and 24, slice by slice.
+    fn charge(&mut self, y: usize, g: usize) -> Result<(), Refusal> {
+        let v = self.view;
+        let (plant, zone) = (y * v.g + g, y * v.z + v.zone_of(g));
+        let efficiency = v.table(Table::Efficiency)[g];
+        for s in 0..v.s {
+            let row = plant * v.s + s;
+            let mut load = -1000 * self.m(1)[zone * v.s + s] - self.m(22)[row];
+            if v.is_battery(g) {
+                load -= times(efficiency, self.m(21)[row]);
+                if s % v.day > 0 {
+                    load += 1000 * (self.m(24)[row] - self.m(23)[row]);
+                }
+                if s % v.day + 1 < v.day {
+                    load += 1000 * (self.m(23)[row + 1] - self.m(24)[row + 1]);
+                }
+            }
+            self.narrow(0, load)?;
+        }
+        Ok(())
+    }
+
+    /// Family 25; of a battery also 21 of the slice and of the day's next, slice by
+    /// slice.
+    fn level(&mut self, y: usize, g: usize) -> Result<(), Refusal> {
+        let v = self.view;
+        let plant = y * v.g + g;
+        for s in 0..v.s {
+            let row = plant * v.s + s;
+            let mut load = -self.m(25)[row];
+            if v.is_battery(g) {
+                load += self.m(21)[row];
+                if s % v.day + 1 < v.day {
+                    load -= self.m(21)[row + 1];
+                }
+            }
+            self.narrow(0, load)?;
+        }
+        Ok(())
+    }
+
+    /// Refusal 13, then cost + N·Σ m·k. Families 5 to 11, 13, 14 and 21 to 24 have no
     /// constant.
     fn gap(&self, scale: u32, cost: u64) -> Result<u64, Refusal> {
         let v = self.view;
@@ -321,6 +377,12 @@ impl Columns<'_> {
         }
         for (y, &m) in self.m(20).iter().enumerate() {
             add(m, 1000 * of(Table::SystemCap, y));
+        }
+        for (row, &m) in self.m(25).iter().enumerate() {
+            let g = row / v.s % v.g;
+            if v.is_battery(g) {
+                add(m, of(Table::EnergyCapacity, g));
+            }
         }
         let (positive, negative) = (sum.positive, sum.negative);
         let scale = u128::from(scale);

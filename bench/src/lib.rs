@@ -1,5 +1,6 @@
-//! A walk written by hand, for comparison: check and certify of document 01 over
-//! plain slices, each row and each column by its own terms, in document order.
+//! A walk written by hand, for comparison: check and certify of document 01, with
+//! the requests that have landed, over plain slices, each row and each column by its
+//! own terms, in document order.
 //! It is tested against the second implementation, and nothing about it is proved.
 
 pub mod columns;

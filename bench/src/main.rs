@@ -2,8 +2,8 @@
 //! hand and one pass over the same memory, at full size and at smaller shapes.
 //! Every time is the best of many runs in this one process.
 
-use epm_reference::generator::draft::Case;
-use epm_reference::generator::sound_case;
+use epm_reference::generator::draft::{Case, Draft};
+use epm_reference::generator::{sound_case, FULL_SIZE_SEED, LARGEST_COUNTS};
 use epm_reference::shape::Shape;
 use std::hint::black_box;
 use std::time::{Duration, Instant};
@@ -13,7 +13,7 @@ const SHAPES: [[usize; 7]; 4] = [
     [2, 4, 2, 1, 2, 6, 2],
     [4, 8, 4, 2, 2, 12, 4],
     [6, 16, 8, 4, 2, 24, 6],
-    [8, 32, 8, 4, 4, 24, 10],
+    LARGEST_COUNTS,
 ];
 
 /// How long each call is repeated.
@@ -91,6 +91,9 @@ fn print_full_size(case: &Case, times: &Times) {
         "full size: {rows} rows, {columns} columns, {} data entries",
         case.data.len()
     );
+    let draft = Draft::of(case.clone());
+    let batteries = (0..draft.shape.plants).filter(|&g| draft.is_battery(g));
+    println!("batteries: {}", batteries.count());
     println!("multipliers that are not 0: {used}");
     println!();
     println!("| | ms | ns a row | times the walk | times the pass |");
@@ -144,7 +147,7 @@ fn main() {
     let results: Vec<([usize; 7], Case, Times)> = SHAPES
         .into_iter()
         .map(|counts| {
-            let case = sound_case(Shape::new(counts), 1);
+            let case = sound_case(Shape::new(counts), FULL_SIZE_SEED);
             let times = measure(&case);
             (counts, case, times)
         })

@@ -1,4 +1,4 @@
-//! The twenty families of rows, and the cost.
+//! The families of rows, and the cost.
 //!
 //! With entries of 32 bits only families 17, 18 and 19 have sums that can pass
 //! 2^62 − 1, so only these are summed in 128 bits by sign. The value of every other
@@ -8,7 +8,7 @@ use crate::view::View;
 use epm_reference::columns::{Column, COLUMN_TABLES};
 use epm_reference::data::Table;
 use epm_reference::refusal::{BROKEN, ROW_OFF_SCALE};
-use epm_reference::rows::FAMILIES;
+use epm_reference::rows::{FAMILIES, FAMILY_COUNT};
 use epm_reference::sums::LIMIT;
 use epm_reference::Refusal;
 
@@ -73,7 +73,7 @@ impl<'v> Rows<'v> {
 
     /// Refusals 6 and 7.
     pub fn test(&self) -> Result<(), Refusal> {
-        let families: [fn(&Self) -> Test; 20] = [
+        let families: [fn(&Self) -> Test; FAMILY_COUNT] = [
             Self::demand_balance,
             Self::transfer_limit,
             Self::spinning_reserve,
@@ -94,6 +94,11 @@ impl<'v> Rows<'v> {
             Self::capital,
             Self::zone_emissions,
             Self::system_emissions,
+            Self::battery_level,
+            Self::charge_limit,
+            |rows| rows.charge_ramp(Table::RampDn, 1),
+            |rows| rows.charge_ramp(Table::RampUp, -1),
+            Self::level_limit,
         ];
         for (family, test) in FAMILIES.iter().zip(families) {
             if let Err((number, place)) = test(self) {
@@ -114,7 +119,8 @@ impl<'v> Rows<'v> {
     /// 1 (14).
     fn demand_balance(&self) -> Test {
         let v = self.view;
-        let (gen, trans) = (self.column(Column::Gen), self.column(Column::Trans));
+        let (gen, charge) = (self.column(Column::Gen), self.column(Column::Charge));
+        let trans = self.column(Column::Trans);
         let (unmet, surplus) = (self.column(Column::Unmet), self.column(Column::Surplus));
         let (demand, ee) = (v.table(Table::Demand), v.table(Table::Ee));
         let loss = v.table(Table::Loss);
@@ -123,7 +129,8 @@ impl<'v> Rows<'v> {
             let (y, z) = (zone / v.z, zone % v.z);
             let mut value = 0;
             for &g in &v.plants[z] {
-                value += 1000 * i64::from(gen[(y * v.g + g) * v.s + s]);
+                let place = (y * v.g + g) * v.s + s;
+                value += 1000 * (i64::from(gen[place]) - i64::from(charge[place]));
             }
             for z2 in (0..v.z).filter(|&z2| z2 != z) {
                 let (out, into) = (v.pair(y, z, z2), v.pair(y, z2, z));
@@ -401,6 +408,61 @@ impl<'v> Rows<'v> {
             verdict(y, u128::from(1000 * self.scale * u64::from(cap)), emitted)?;
         }
         Ok(())
+    }
+
+    /// 21 (42) and (43).
+    fn battery_level(&self) -> Test {
+        let v = self.view;
+        let (gen, charge) = (self.column(Column::Gen), self.column(Column::Charge));
+        let level = self.column(Column::Level);
+        let efficiency = v.table(Table::Efficiency);
+        for plant in (0..v.y * v.g).filter(|plant| v.is_battery(plant % v.g)) {
+            let efficiency = i64::from(efficiency[plant % v.g]);
+            for row in plant * v.s..(plant + 1) * v.s {
+                let earlier = match row % v.s % v.day {
+                    0 => 0,
+                    _ => i64::from(level[row - 1]),
+                };
+                let stored = efficiency * i64::from(charge[row]) - 1000 * i64::from(gen[row]);
+                if i64::from(level[row]) != earlier + stored {
+                    return Err((BROKEN, row));
+                }
+            }
+        }
+        Ok(())
+    }
+
+    /// 22 (45).
+    fn charge_limit(&self) -> Test {
+        let v = self.view;
+        let charge = self.column(Column::Charge);
+        self.dispatch(|g, _, row, cap| {
+            let most = if v.is_battery(g) { cap } else { 0 };
+            most - i64::from(charge[row])
+        })
+    }
+
+    /// 23 (47) with sign 1, 24 (48) with sign −1.
+    fn charge_ramp(&self, table: Table, sign: i64) -> Test {
+        let v = self.view;
+        let (charge, ramp) = (self.column(Column::Charge), v.table(table));
+        self.dispatch(|g, s, row, cap| {
+            if s % v.day == 0 || !v.is_battery(g) {
+                return 0;
+            }
+            let rise = i64::from(charge[row]) - i64::from(charge[row - 1]);
+            i64::from(ramp[g]) * cap - 1000 * sign * rise
+        })
+    }
+
+    /// 25 (46).
+    fn level_limit(&self) -> Test {
+        let v = self.view;
+        let (level, most) = (self.column(Column::Level), v.table(Table::EnergyCapacity));
+        self.dispatch(|g, _, row, _| {
+            let most = if v.is_battery(g) { most[g] } else { 0 };
+            self.scale as i64 * i64::from(most) - i64::from(level[row])
+        })
     }
 
     /// Σ c·entry.

@@ -2,7 +2,7 @@
 
 use epm_reference::columns::{ColumnLayout, COLUMNS, COLUMN_TABLES};
 use epm_reference::data::{read_shape, DataLayout, Range, Table, TABLES, TABLE_COUNT};
-use epm_reference::refusal::{DATA_LENGTH, ENTRY};
+use epm_reference::refusal::{DATA_LENGTH, ENTRY, STORAGE};
 use epm_reference::rows::{RowLayout, FAMILIES, FAMILY_COUNT};
 use epm_reference::shape::Shape;
 use epm_reference::Refusal;
@@ -41,7 +41,7 @@ fn cut<T, const N: usize>(list: &[T], sizes: [usize; N]) -> Option<[&[T]; N]> {
 }
 
 impl<'a> View<'a> {
-    /// Refusals 1 to 3.
+    /// Refusals 1 to 3, and 16.
     pub fn read(data: &'a [u32]) -> Result<View<'a>, Refusal> {
         let shape = read_shape(data)?;
         let sizes: [usize; TABLE_COUNT] =
@@ -64,6 +64,9 @@ impl<'a> View<'a> {
             tables,
         };
         view.test_entries(shape)?;
+        if let Some(g) = (0..view.g).find(|&g| view.is_battery(g) && view.is_vre(g)) {
+            return Err(Refusal::at(STORAGE, g));
+        }
         let zones = view.table(Table::Zone);
         view.plants = (0..view.z)
             .map(|z| (0..view.g).filter(|&g| zones[g] as usize == z).collect())
@@ -122,6 +125,10 @@ impl<'a> View<'a> {
 
     pub fn is_vre(&self, g: usize) -> bool {
         self.table(Table::Vre)[g] == 1
+    }
+
+    pub fn is_battery(&self, g: usize) -> bool {
+        self.table(Table::Battery)[g] == 1
     }
 
     pub fn zone_of(&self, g: usize) -> usize {

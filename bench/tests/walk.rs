@@ -13,13 +13,16 @@ use epm_reference::generator::{
 };
 use epm_reference::met::Met;
 use epm_reference::refusal::{
-    Refusal, BROKEN, COLUMN_OFF_SCALE, ENTRY, MULTIPLIER, PLACED, UNDERPRICED,
+    Refusal, BROKEN, COLUMN_OFF_SCALE, ENTRY, MULTIPLIER, OF_ALL_CALLS, OF_CERTIFY, PLACED,
+    UNDERPRICED,
 };
 use epm_reference::shape::Shape;
 use epm_reference::sums::LIMIT;
 
-/// The refusals that certify can give. Check gives those up to 8.
-const REFUSALS: [u32; 13] = [1, 2, 3, 4, 5, 6, 7, 8, 9, 10, 11, 12, 13];
+/// The refusals that certify can give.
+fn refusals() -> Vec<u32> {
+    [&OF_ALL_CALLS[..], &OF_CERTIFY].concat()
+}
 
 /// What was met on inputs where both agree.
 #[derive(Default)]
@@ -71,7 +74,7 @@ fn the_walk_agrees_on_seeded_inputs() {
         let _ = hold("steep", &steep(&mut random));
     }
     // Every refusal, each in every family or table that can be refused by it.
-    assert_eq!(agreement.met.missing(&REFUSALS), Vec::<String>::new());
+    assert_eq!(agreement.met.missing(&refusals()), Vec::<String>::new());
     assert_eq!(agreement.met.missing_places(&PLACED), Vec::<String>::new());
     assert!(agreement.certified > 500);
 }
@@ -88,7 +91,7 @@ fn the_walk_agrees_on_long_runs_of_slices() {
         [2, 4, 1, 1, 1, 13, 2],
         [2, 4, 2, 2, 3, 1, 3],
     ] {
-        for seed in 0..2 {
+        for seed in 0..5 {
             let sound = sound_case(Shape::new(counts), seed);
             let answer = agreement.hold(&format!("{counts:?}"), &sound);
             assert!(answer.is_ok());
@@ -118,8 +121,11 @@ fn changed(entry: u32) -> [u32; 4] {
 /// fault is once at each place, and limits are far from what is used.
 #[test]
 fn the_walk_agrees_on_each_entry_changed() {
-    let sound = sound_case(Shape::new([2, 3, 2, 2, 2, 3, 2]), 12);
+    let sound = sound_case(Shape::new([2, 3, 2, 2, 2, 3, 2]), 2);
     assert!(sound.scale > 256, "limits past 32 bits");
+    let draft = Draft::of(sound.clone());
+    let battery = (0..draft.shape.plants).any(|g| draft.is_battery(g) && draft.cap(0, g) > 0);
+    assert!(battery, "no battery");
     let mut agreement = Agreement::default();
     for place in 7..sound.data.len() {
         for entry in changed(sound.data[place]) {
@@ -186,7 +192,9 @@ fn draw_slices(random: &mut Random, draft: &mut Draft) {
         draft.set_data(Table::Duration, &[s], hours);
         let sign = *random.pick(&[1, -1]);
         draft.set_multiplier(1, &[0, 0, s], sign * i128::from(random.below(4)));
-        for family in [3, 5, 6, 7, 8, 9, 11] {
+        let sign = *random.pick(&[1, -1]);
+        draft.set_multiplier(21, &[0, 0, s], sign * i128::from(random.below(4)));
+        for family in [3, 5, 6, 7, 8, 9, 11, 22, 23, 24, 25] {
             draft.set_multiplier(family, &[0, 0, s], i128::from(random.below(4)));
         }
     }
@@ -194,7 +202,10 @@ fn draw_slices(random: &mut Random, draft: &mut Draft) {
         let minimum_load = i128::from(random.below(2));
         draft.set_data(Table::MinimumLoadDay, &[0, day], minimum_load);
     }
-    draft.set_data(Table::Vre, &[0], i128::from(random.below(2)));
+    let vre = i128::from(random.below(2));
+    draft.set_data(Table::Vre, &[0], vre);
+    draft.set_data(Table::Battery, &[0], 1 - vre);
+    draft.set_data(Table::Efficiency, &[0], i128::from(random.below(1001)));
     draft.set_data(Table::Err, &[], i128::from(random.below(1001)));
 }
 
@@ -227,7 +238,8 @@ fn the_walk_agrees_at_the_limit_of_generation_columns() {
             let mut draft = loaded_columns(hourly);
             for s in 0..6 {
                 draft.set_multiplier(1, &[0, 0, s], sign << 40);
-                for family in [3, 5, 6, 7, 8, 9, 11] {
+                draft.set_multiplier(21, &[0, 0, s], sign << 40);
+                for family in [3, 5, 6, 7, 8, 9, 11, 22, 23, 24, 25] {
                     draft.set_multiplier(family, &[0, 0, s], 1 << 40);
                 }
             }

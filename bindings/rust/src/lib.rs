@@ -28,7 +28,8 @@ pub struct Certificate {
 }
 
 /// Tests the plan, in `scale`ths, against every equation; its cost in millionths
-/// of a money unit times the scale, or the first refusal of 1 to 8.
+/// of a money unit times the scale, or the first refusal of 1 to 3, 16 and 4 to 8,
+/// which are tested in this order.
 pub fn check(data: &[u32], scale: u32, plan: &[u32]) -> Result<u64, Refusal> {
     let mut out = UNWRITTEN;
     let answer = raw::check(data, scale, plan, &mut out);
@@ -36,7 +37,7 @@ pub fn check(data: &[u32], scale: u32, plan: &[u32]) -> Result<u64, Refusal> {
 }
 
 /// The tests of check, then those of the multipliers, one for each row; the cost
-/// and the gap, or the first refusal of 1 to 13.
+/// and the gap, or the first refusal of check's and 9 to 13.
 pub fn certify(
     data: &[u32],
     scale: u32,
@@ -51,7 +52,7 @@ pub fn certify(
 
 /// The tests of check, then that the year and the board's places exist. Writes the
 /// year's generation to the board from place `start` on; every other place keeps
-/// its number, and all do on a refusal. The cost, or the first refusal of 1 to 8
+/// its number, and all do on a refusal. The cost, or the first refusal of check's
 /// and 14.
 pub fn post(
     data: &[u32],

@@ -22,10 +22,11 @@ pub enum Reason {
     Underpriced = 12,
     GapOffScale = 13,
     Board = 14,
+    Storage = 16,
 }
 
-/// Reason `n` is at place `n - 1`.
-const REASONS: [Reason; 14] = [
+/// All of them, by number.
+const REASONS: [Reason; 15] = [
     Reason::Shape,
     Reason::DataLength,
     Reason::Entry,
@@ -40,13 +41,14 @@ const REASONS: [Reason; 14] = [
     Reason::Underpriced,
     Reason::GapOffScale,
     Reason::Board,
+    Reason::Storage,
 ];
 
 /// A refusal: what is wrong, and where. Printed, it says both in words.
 #[derive(Clone, Copy, Debug, PartialEq, Eq)]
 pub struct Refusal {
     pub reason: Reason,
-    /// The count, entry, row or column, numbered from 0; or the length that a
+    /// The count, entry, plant, row or column, numbered from 0; or the length that a
     /// list should have; or 0.
     pub place: u64,
 }
@@ -105,6 +107,7 @@ impl fmt::Display for Refusal {
                 f,
                 "there is no such year, or the board has too few places from the start place on"
             ),
+            Reason::Storage => write!(f, "plant {place} is a battery and has VRE set"),
         }
     }
 }
@@ -117,7 +120,7 @@ mod tests {
 
     #[test]
     fn each_number_is_its_reasons() {
-        for number in 1..=14 {
+        for number in (1..=14).chain([16]) {
             assert_eq!(Refusal::of(number, 3).number(), number);
         }
     }
@@ -129,8 +132,16 @@ mod tests {
     }
 
     #[test]
+    #[should_panic(expected = "no other number")]
+    fn no_call_refuses_with_17() {
+        Refusal::of(17, 1);
+    }
+
+    #[test]
     fn a_refusal_says_its_place() {
         let words = Refusal::of(7, 4).to_string();
         assert_eq!(words, "refusal 7: the plan does not meet row 4");
+        let words = Refusal::of(16, 2).to_string();
+        assert_eq!(words, "refusal 16: plant 2 is a battery and has VRE set");
     }
 }

@@ -1,4 +1,4 @@
-// Answers in document 01's numbers: 0 with cost and gap, or a refusal's number and place.
+// Answers in the numbers of documents 01 and 02: 0 with cost and gap, or a refusal's number and place.
 use model::Answer;
 use model::Certificate;
 use model::Code;
@@ -33,6 +33,7 @@ pub fn code_of(refusal: Refusal) -> Code
         Refusal::GapOffScale => at(13, 0),
         Refusal::Board => at(14, 0),
         Refusal::Frame(line) => at(15, line),
+        Refusal::Storage(plant) => at(16, plant),
     }
 }
 

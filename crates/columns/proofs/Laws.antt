@@ -1,6 +1,6 @@
 -- The sums of a column, made term by term: the laws of the steps, of the loops, and of the whole. Assumes nothing.
 -- `Priced` and `Walked` are records, so that a law finds the coefficients in them.
-use mathlib.Core.Path.{_≡_, sym, ap, ap₂, _∙_}
+use mathlib.Core.Path.{_≡_, refl, sym, ap, ap₂, _∙_}
 use mathlib.Core.Bool.{Bool, true, false}
 use mathlib.Core.List.{List}
 use Prim.Native.Nat.{ℕ, _+_, _*_, _≤_, _<_, zero-le}
@@ -17,7 +17,7 @@ use Rattle.sums.proofs.Sums.{sum-one-more}
 use Rattle.sums.proofs.Spans.{total-add}
 use Rattle.model.specs.declared.Counts.{Counts}
 use Rattle.model.specs.declared.Family.{Family}
-use Rattle.model.specs.Counts.{sets}
+use Rattle.model.specs.Counts.{sets, slicesOf, [ygs]}
 use Rattle.model.specs.Data.{Data}
 use Rattle.model.specs.Columns.{columnBoxes}
 use Rattle.model.specs.Families.{family, families, familyOf, rows, rowBoxes, equation, familyCount}
@@ -29,10 +29,11 @@ use Rattle.tables.proofs.Laws.{getD-map-in}
 use Rattle.duals.specs.Multipliers.{multiplierOf, RowsAt}
 use Rattle.tables.proofs.Members.{family-box}
 use Rattle.columns.specs.declared.Pair.{Pair}
-use Rattle.columns.specs.Pairs.{noTerms, joined, added, taken, addedIf, takenIf, rowMultiplier, pairOf, pricedPair, familySets, Row}
+use Rattle.columns.specs.Pairs.{noTerms, joined, added, taken, addedIf, takenIf, rowMultiplier, pairOf, pricedPair, familySets, Row, Ready}
+use Rattle.columns.specs.Groups.{Ramp}
 
 -- a row's multiplier as its reader asks for it
-family-set : (k : ℕ) → k < familyCount → getD familySets k 0 ≡ familyOf k .set
+pub family-set : (k : ℕ) → k < familyCount → getD familySets k 0 ≡ familyOf k .set
 unfolding familyOf
 family-set k h = getD-map-in (λ (f : Family). f .set) families (family 0 0 false) 0 k h
 
@@ -48,6 +49,14 @@ pub row-at : {ms : List ℤ} {rows-at : List ℕ} {c : Counts} {k y i j s : ℕ}
     → y < boxOf (sets c) (getD familySets k 0) .years → i < boxOf (sets c) (getD familySets k 0) .firsts
     → j < boxOf (sets c) (getD familySets k 0) .seconds → s < boxOf (sets c) (getD familySets k 0) .slices → Row ms rows-at c k y i j s
 row-at n d h hy hi hj hs = record { counted = n; rowsAt = d; family = h; inside = record { year = hy; «first» = hi; second = hj; slice = hs } }
+
+-- a row of a plant's slice, and one that is a ramp
+module _ {l tables-at : List ℕ} {ms : List ℤ} {rows-at : List ℕ} {c : Counts} {y g s : ℕ} (r : Ready l tables-at ms rows-at c) (h : (y < c .years) × ((g < c .plants) × (s < slicesOf c))) where
+  pub plant-row : {k : ℕ} → k < familyCount → getD familySets k 0 ≡ [ygs] → Row ms rows-at c k y g 0 s
+  plant-row few e = row-at (r .tablesAt .counted) (r .rowsAt) few (rw e (h .0)) (rw e (h .1 .0)) (rw e (omega arith)) (rw e (h .1 .1))
+
+  pub plant-ramp : {k : ℕ} → k < familyCount → getD familySets k 0 ≡ [ygs] → Ramp ms rows-at c [ygs] k y g s
+  plant-ramp few e = record { own = plant-row few e; over = e; slices = refl }
 
 pair-is : {u v d e : ℕ} → u ≡ v → d ≡ e → _≡_ {A = Pair} (record { up = cap u; down = cap d }) (record { up = cap v; down = cap e })
 pair-is p q = ap₂ (λ (u d : ℕ). record { up = cap u; down = cap d }) p q

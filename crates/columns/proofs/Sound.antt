@@ -8,15 +8,23 @@ use native.Mathlib.Nat.{mul-le-mul, mul-mod-left, eq-or-lt-of-le}
 use native.Mathlib.Omega.{arith}
 use borrow.Author.Tests.{eq-eqb, ne-eqb, ltb-true, lt-ltb}
 use lib.Dec.{eqb, leb, ltb, eqb·suc-zero}
+use lib.IntN.{ℤ, pos}
+use lib.ListN.{length, getD}
 use Rattle.sums.specs.Span.{fine}
+use Rattle.sums.specs.Index.{index, boxOf, inside}
 use Rattle.model.specs.declared.Counts.{Counts}
-use Rattle.model.specs.Counts.{slicesOf}
+use Rattle.model.specs.Counts.{sets, slicesOf}
 use Rattle.model.specs.Data.{Data, read, tableBoxes, zone, fuel, kind, year, rate, weight, availability, loss}
 use Rattle.model.specs.Families.{outOfService}
 use Rattle.model.specs.Standing.{Placed}
 use Rattle.model.specs.Tests.{entriesFault}
 use Rattle.model.proofs.Sound.{entry-range, placed}
-use Rattle.tables.specs.Layout.{TablesAt}
+use Rattle.tables.specs.Layout.{TablesAt, Inside}
+use Rattle.duals.specs.Multipliers.{multiplierOf}
+use Rattle.duals.proofs.Laws.{row-is, row-below}
+use Rattle.columns.specs.Pairs.{familySets, rowMultiplier}
+use Rattle.columns.specs.Groups.{Ramp}
+use Rattle.columns.proofs.Laws.{family-set, readable, row-at}
 
 module _ {l tables-at : List ℕ} {c : Counts} (n : TablesAt l tables-at c) (sound : entriesFault (read l) ≡ fine) where
   pub sound-placed : Placed (read l)
@@ -54,6 +62,28 @@ next-slice c {s} h e =
         let p : 0 < (s + 1) % c .hours = ltb-true _ _ e in
         let z : (s + 1) % c .hours ≡ 0 = ap (λ (n : ℕ). n % c .hours) q ∙ mul-mod-left (c .seasons * c .days) (c .hours) in
         omega arith
+
+-- a ramp's indices, its place among the rows, and the ramp of the slice after, where that is in the same day
+module _ {ms : List ℤ} {rows-at : List ℕ} {c : Counts} {set k y i s : ℕ} (r : Ramp ms rows-at c set k y i s) where
+  pub ramp-inside : Inside c set y i 0 s
+  ramp-inside = rw (r .over) at (r .own .inside)
+
+  pub ramp-slice : s < slicesOf c
+  ramp-slice = rw (r .slices) at (ramp-inside .slice)
+
+  pub ramp-place : (getD rows-at k 0 + inside (boxOf (sets c) set) y i 0 s < length ms)
+      × (multiplierOf (getD ms (getD rows-at k 0 + inside (boxOf (sets c) set) y i 0 s) (pos 0)) ≡ rowMultiplier c ms (index k y i 0 s))
+  unfolding rowMultiplier
+  ramp-place =
+      let m = readable (r .own) .1 in
+      let e = sym (family-set k (r .own .family)) ∙ r .over in
+      (rw (← e) (row-below (m .1) (m .0)), rw (← e, row-is (m .1) (m .0)))
+
+  pub next-ramp : ltb 0 ((s + 1) % c .hours) ≡ true → Ramp ms rows-at c set k y i (s + 1)
+  next-ramp e =
+      let w = r .own in
+      let here : s + 1 < boxOf (sets c) (getD familySets k 0) .slices = rw (r .over, r .slices) (next-slice c ramp-slice e) in
+      record { own = row-at (w .counted) (w .rowsAt) (w .family) (w .inside .year) (w .inside .first) (w .inside .second) here; over = r .over; slices = r .slices }
 
 -- whether a plant is out of service, by its kind
 module _ (D : Data) (y g : ℕ) {k v n : ℕ} (e : k ≡ kind D g) (q : v ≡ year D g) (t : n ≡ y) where

@@ -1,15 +1,19 @@
--- The rows of the columns cap and gen in the groups in which the code sums them; together they are `capIn⁺` and the like of the model.
+-- The rows of the columns cap and gen, and the ramps of gen and charge, in the groups in which the code sums them; together they are `capIn⁺` and the like of the model.
 use mathlib.Core.Path.{_≡_}
+use mathlib.Core.List.{List}
 use Prim.Native.Nat.{ℕ, _+_, _*_, _%_, _<_}
 use lib.Dec.{ltb}
+use lib.IntN.{ℤ}
 use lib.ListN.{length, getD}
+use Rattle.sums.specs.Index.{index, boxOf}
 use Rattle.sums.specs.Linear.{Linear, _·_, _⊕_, when}
 use Rattle.model.specs.declared.Counts.{Counts}
-use Rattle.model.specs.Counts.{[g]}
-use Rattle.model.specs.Data.{Data, tables, rate, weight, duration, zone, fuel, overLoad, resOffer, rampDn, rampUp, minCapFac, capCredit, heatRate, emission, availability, profile, annuity, err, Y, candidate, season, afterFirstHour, onMinLoadDay, isVre}
+use Rattle.model.specs.Counts.{sets, slicesOf, [g]}
+use Rattle.model.specs.Data.{Data, tables, rate, weight, duration, zone, fuel, overLoad, resOffer, rampDn, rampUp, minCapFac, capCredit, heatRate, emission, availability, annuity, err, Y, candidate, season, onMinLoadDay, isVre, isBattery}
 use Rattle.model.specs.Families.{row, seasonSum, outOfService}
 use Rattle.tables.specs.Layout.{tableSets}
 use Rattle.columns.specs.declared.capacity.Rates.{Rates}
+use Rattle.columns.specs.Pairs.{familySets, Row}
 
 -- a table of the data by plant
 pub record PlantTable (t : ℕ) : Type 0 where
@@ -20,25 +24,22 @@ pub record PlantTable (t : ℕ) : Type 0 where
 abbrev pub ramped : Counts → ℕ → Linear → Linear
 ramped c s e = when (ltb 0 (s % c .hours)) e
 
--- families 7 and 8: the slice's own row, and that of the slice after
-unfoldable pub genInRamps⁺ : Counts → ℕ → ℕ → ℕ → Linear
-genInRamps⁺ c y g s = ramped c s (1000 · row 7 y g 0 s) ⊕ ramped c (s + 1) (1000 · row 8 y g 0 (s + 1))
-unfoldable pub genInRamps⁻ : Counts → ℕ → ℕ → ℕ → Linear
-genInRamps⁻ c y g s = ramped c (s + 1) (1000 · row 7 y g 0 (s + 1)) ⊕ ramped c s (1000 · row 8 y g 0 s)
+-- the model's `rampsIn` by the counts alone, over families counted from 0, of plant or zone i: one family's row of the slice, the other's of the next
+unfoldable pub inRamps : Counts → ℕ → ℕ → ℕ → ℕ → ℕ → Linear
+inRamps c fall rise y i s = ramped c s (1000 · index fall y i 0 s) ⊕ ramped c (s + 1) (1000 · index rise y i 0 (s + 1))
+
+-- the rows of such a family, k, over the index set `set`, can be read: that of the slice, and so the next one's, where the day goes on
+pub record Ramp (ms : List ℤ) (rows-at : List ℕ) (c : Counts) (set k y i s : ℕ) : Type 0 where
+  pub own : Row ms rows-at c k y i 0 s
+  pub over : getD familySets k 0 ≡ set
+  pub slices : boxOf (sets c) set .slices ≡ slicesOf c
 
 module _ (D : Data) where
   -- a plant's coefficients in every slice
   unfoldable pub ratesOf : ℕ → Rates
-  ratesOf g = record { load = 1000 + overLoad D g; offer = resOffer D g; down = rampDn D g; up = rampUp D g; least = minCapFac D g; vre = isVre D g }
+  ratesOf g = record { load = 1000 + overLoad D g; offer = resOffer D g; down = rampDn D g; up = rampUp D g; least = minCapFac D g; vre = isVre D g; battery = isBattery D g }
 
-  -- families 5 to 9 and 11
-  unfoldable pub capInSlice⁺ : ℕ → ℕ → ℕ → Linear
-  capInSlice⁺ y g s =
-      (1000 + overLoad D g) · row 5 y g 0 s
-      ⊕ resOffer D g · row 6 y g 0 s
-      ⊕ when (afterFirstHour D s) (rampDn D g · row 7 y g 0 s)
-      ⊕ when (afterFirstHour D s) (rampUp D g · row 8 y g 0 s)
-      ⊕ when (isVre D g) (profile D g s · row 11 y g 0 s)
+  -- family 9, beside the model's `capInSlice⁺`
   unfoldable pub capInSlice⁻ : ℕ → ℕ → ℕ → Linear
   capInSlice⁻ y g s = when (onMinLoadDay D s) (minCapFac D g · row 9 y g 0 s)
 

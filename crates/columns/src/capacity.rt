@@ -7,7 +7,6 @@ use crate::pairs::none;
 use crate::pairs::take_row_if;
 use crate::readers::after_first_hour;
 use crate::readers::available_hours;
-use crate::readers::is_vre;
 use crate::readers::on_min_load_day;
 use crate::readers::out_of_service;
 use crate::readers::weighted_annuity;
@@ -19,6 +18,9 @@ use tables::entries::by_plant;
 use tables::entries::by_plant_slice;
 use tables::families::AVAILABLE;
 use tables::families::CAPITAL;
+use tables::families::CHARGE_FALL;
+use tables::families::CHARGE_LIMIT;
+use tables::families::CHARGE_RISE;
 use tables::families::FIRM;
 use tables::families::FIXED;
 use tables::families::LIFE;
@@ -38,20 +40,23 @@ use tables::names::PROFILE;
 use tables::names::RAMP_DN;
 use tables::names::RAMP_UP;
 use tables::names::RES_OFFER;
+use tables::plants::is_battery;
 use tables::plants::is_existing;
+use tables::plants::is_vre;
 use tables::sets::slices_of;
 use tables::starts::Starts;
 ghost use mathlib.Core.Path.{_≡_};
 ghost use Prim.Native.Nat.{_<_};
+ghost use Rattle.sums.specs.Index.{index};
 ghost use Rattle.sums.specs.Linear.{nothing, ∑};
 ghost use Rattle.model.specs.Counts.{slicesOf};
 ghost use Rattle.model.specs.Data.{read};
-ghost use Rattle.model.specs.Standing.{capIn⁺, capIn⁻, buildIn⁻, retireIn⁺, retireIn⁻};
+ghost use Rattle.model.specs.Standing.{capInSlice⁺, capIn⁺, capIn⁻, buildIn⁻, retireIn⁺, retireIn⁻};
 ghost use Rattle.tables.specs.Layout.{TablesAt};
-ghost use Rattle.columns.specs.Pairs.{pairOf, Ready};
-ghost use Rattle.columns.specs.Groups.{ratesOf, capInSlice⁺, capInSlice⁻, capInSeason⁺, capInYear⁺, capInYear⁻};
+ghost use Rattle.columns.specs.Pairs.{addedIf, rowMultiplier, pairOf, Row, Ready};
+ghost use Rattle.columns.specs.Groups.{ratesOf, capInSlice⁻, capInSeason⁺, capInYear⁺, capInYear⁻};
 
-// The numbers of a plant that are its capacity's coefficients in every slice, and whether it is VRE.
+// The numbers of a plant that are its capacity's coefficients in every slice, and whether it is VRE or a battery.
 pub struct Rates {
     pub load: u64,
     pub offer: u64,
@@ -59,6 +64,7 @@ pub struct Rates {
     pub up: u64,
     pub least: u64,
     pub vre: bool,
+    pub battery: bool,
 }
 
 fn rates_of(data: &[u32], tables_at: &Starts, c: Counts, g: usize) -> Rates
@@ -72,10 +78,20 @@ fn rates_of(data: &[u32], tables_at: &Starts, c: Counts, g: usize) -> Rates
         up: by_plant(data, tables_at, c, RAMP_UP, g),
         least: by_plant(data, tables_at, c, MIN_CAP_FAC, g),
         vre: is_vre(data, tables_at, c, g),
+        battery: is_battery(data, tables_at, c, g),
     }
 }
 
-// The rows of one slice: families 5 to 9 and 11.
+// A ramp's two rows, where a test holds: RampDn limits family `down`, RampUp family `up`.
+fn cap_in_ramps(on: bool, p: Pair, rates: Rates, ms: &[i64], rows_at: &RowStarts, c: Counts, down: usize, up: usize, y: usize, g: usize, s: usize) -> Pair
+    requires { ⌜ Row (now ms) (now «rows_at») c down y g 0 s × Row (now ms) (now «rows_at») c up y g 0 s ⌝ }
+    ensures { λ r. ⌜ r ≡ addedIf on (addedIf on p (rates .down) (rowMultiplier c (now (ms .entry)) (index down y g 0 s))) (rates .up) (rowMultiplier c (now (ms .entry)) (index up y g 0 s)) ⌝ }
+{
+    let q = add_row_if(on, p, rates.down, ms, rows_at, c, down, y, g, 0, s);
+    add_row_if(on, q, rates.up, ms, rows_at, c, up, y, g, 0, s)
+}
+
+// The rows of one slice: families 5 to 9 and 11; of a battery also 22 to 24.
 fn cap_in_slice(data: &[u32], ms: &[i64], tables_at: &Starts, rows_at: &RowStarts, c: Counts, rates: Rates, y: usize, g: usize, s: usize) -> Pair
     requires { ⌜ Ready (now «data») (now «tables_at») (now ms) (now «rows_at») c × ((rates ≡ ratesOf (read (now «data»)) g) × ((y < c .years) × ((g < c .plants) × (s < slicesOf c)))) ⌝ }
     ensures { λ r. ⌜ r ≡ pairOf c (now (ms .entry)) (capInSlice⁺ (read (now («data» .entry))) y g s) (capInSlice⁻ (read (now («data» .entry))) y g s) ⌝ }
@@ -85,10 +101,11 @@ fn cap_in_slice(data: &[u32], ms: &[i64], tables_at: &Starts, rows_at: &RowStart
     let least = on_min_load_day(data, tables_at, c, s);
     let p = add_row(none(), rates.load, ms, rows_at, c, LOADING, y, g, 0, s);
     let q = add_row(p, rates.offer, ms, rows_at, c, OFFER, y, g, 0, s);
-    let r = add_row_if(ramps, q, rates.down, ms, rows_at, c, RAMP_DOWN, y, g, 0, s);
-    let t = add_row_if(ramps, r, rates.up, ms, rows_at, c, RAMP_UPWARD, y, g, 0, s);
-    let u = add_row_if(rates.vre, t, profile, ms, rows_at, c, PROFILED, y, g, 0, s);
-    take_row_if(least, u, rates.least, ms, rows_at, c, MINIMUM_LOAD, y, g, 0, s)
+    let r = cap_in_ramps(ramps, q, rates, ms, rows_at, c, RAMP_DOWN, RAMP_UPWARD, y, g, s);
+    let t = add_row_if(rates.vre, r, profile, ms, rows_at, c, PROFILED, y, g, 0, s);
+    let u = take_row_if(least, t, rates.least, ms, rows_at, c, MINIMUM_LOAD, y, g, 0, s);
+    let v = add_row_if(rates.battery, u, 1, ms, rows_at, c, CHARGE_LIMIT, y, g, 0, s);
+    cap_in_ramps(both(rates.battery, ramps), v, rates, ms, rows_at, c, CHARGE_RISE, CHARGE_FALL, y, g, s)
 }
 
 fn cap_in_slices(data: &[u32], ms: &[i64], tables_at: &Starts, rows_at: &RowStarts, c: Counts, y: usize, g: usize) -> Pair

@@ -6,10 +6,9 @@ use crate::pairs::join;
 use crate::pairs::none;
 use crate::pairs::take_row;
 use crate::pairs::take_row_if;
-use crate::readers::after_first_hour;
+use crate::ramps::in_ramps;
 use crate::readers::fuel_of;
 use crate::readers::hourly;
-use crate::readers::is_vre;
 use crate::readers::on_min_load_day;
 use crate::readers::zone_of;
 use duals::RowStarts;
@@ -19,6 +18,7 @@ use tables::entries::by_slice;
 use tables::entries::single;
 use tables::families::AVAILABLE;
 use tables::families::BALANCE;
+use tables::families::BATTERY_LEVEL;
 use tables::families::FUEL_USE;
 use tables::families::LOADING;
 use tables::families::MINIMUM_LOAD;
@@ -33,16 +33,17 @@ use tables::names::DURATION;
 use tables::names::EMISSION;
 use tables::names::ERR;
 use tables::names::HEAT_RATE;
+use tables::plants::is_battery;
+use tables::plants::is_vre;
+use tables::sets::BY_YEAR_PLANT_SLICE;
 use tables::starts::Starts;
 ghost use mathlib.Core.Path.{_≡_};
 ghost use Prim.Native.Nat.{_<_};
 ghost use Rattle.model.specs.Counts.{slicesOf};
 ghost use Rattle.model.specs.Data.{read};
 ghost use Rattle.model.specs.Standing.{genIn⁺, genIn⁻, reserveIn⁺, reserveIn⁻};
-ghost use Rattle.tables.specs.Layout.{Counted};
-ghost use Rattle.duals.specs.Multipliers.{RowsAt};
 ghost use Rattle.columns.specs.Pairs.{pairOf, Ready};
-ghost use Rattle.columns.specs.Groups.{genInZone⁺, genInZone⁻, genInLoad⁺, genInLoad⁻, genInRamps⁺, genInRamps⁻};
+ghost use Rattle.columns.specs.Groups.{genInZone⁺, genInZone⁻, genInLoad⁺, genInLoad⁻};
 
 // The rows of the plant's zone: families 1, 3, 17, 19 and 20.
 fn gen_in_zone(data: &[u32], ms: &[i64], tables_at: &Starts, rows_at: &RowStarts, c: Counts, y: usize, g: usize, s: usize) -> Pair
@@ -75,29 +76,16 @@ fn gen_in_load(data: &[u32], ms: &[i64], tables_at: &Starts, rows_at: &RowStarts
     take_row_if(is_vre(data, tables_at, c, g), t, 1000, ms, rows_at, c, PROFILED, y, g, 0, s)
 }
 
-// The ramps of families 7 and 8, from the hour before and into the hour after.
-fn gen_in_ramps(ms: &[i64], rows_at: &RowStarts, c: Counts, y: usize, g: usize, s: usize) -> Pair
-    requires { ⌜ Counted c × (RowsAt (now ms) (now «rows_at») c × ((y < c .years) × ((g < c .plants) × (s < slicesOf c)))) ⌝ }
-    ensures { λ r. ⌜ r ≡ pairOf c (now (ms .entry)) (genInRamps⁺ c y g s) (genInRamps⁻ c y g s) ⌝ }
-{
-    let next = s + 1;
-    let before = after_first_hour(c, s);
-    let after = after_first_hour(c, next);
-    let p = add_row_if(before, none(), 1000, ms, rows_at, c, RAMP_DOWN, y, g, 0, s);
-    let q = add_row_if(after, p, 1000, ms, rows_at, c, RAMP_UPWARD, y, g, 0, next);
-    let r = take_row_if(after, q, 1000, ms, rows_at, c, RAMP_DOWN, y, g, 0, next);
-    take_row_if(before, r, 1000, ms, rows_at, c, RAMP_UPWARD, y, g, 0, s)
-}
-
-// Families 1, 3, 5, 7 to 11, 17, 19 and 20.
+// Families 1, 3, 5, 7 to 11, 17, 19 and 20; of a battery also 21.
 pub fn gen_column(data: &[u32], ms: &[i64], tables_at: &Starts, rows_at: &RowStarts, c: Counts, y: usize, g: usize, s: usize) -> Pair
     requires { ⌜ Ready (now «data») (now «tables_at») (now ms) (now «rows_at») c × ((y < c .years) × ((g < c .plants) × (s < slicesOf c))) ⌝ }
     ensures { λ r. ⌜ r ≡ pairOf c (now (ms .entry)) (genIn⁺ (read (now («data» .entry))) y g s) (genIn⁻ (read (now («data» .entry))) y g s) ⌝ }
 {
     let zone = gen_in_zone(data, ms, tables_at, rows_at, c, y, g, s);
     let load = gen_in_load(data, ms, tables_at, rows_at, c, y, g, s);
-    let ramps = gen_in_ramps(ms, rows_at, c, y, g, s);
-    join(join(zone, load), ramps)
+    let ramps = in_ramps(ms, rows_at, c, BY_YEAR_PLANT_SLICE, RAMP_DOWN, RAMP_UPWARD, y, g, s);
+    let p = join(join(zone, load), ramps);
+    add_row_if(is_battery(data, tables_at, c, g), p, 1000, ms, rows_at, c, BATTERY_LEVEL, y, g, 0, s)
 }
 
 // Families 3, 5 and 6.

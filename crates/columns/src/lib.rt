@@ -2,7 +2,9 @@
 pub mod capacity;
 pub mod dispatch;
 pub mod pairs;
+pub mod ramps;
 pub mod readers;
+pub mod storage;
 pub mod zones;
 
 use capacity::build_column;
@@ -13,12 +15,16 @@ use dispatch::gen_column;
 use dispatch::reserve_column;
 use duals::RowStarts;
 use model::Counts;
+use storage::charge_column;
+use storage::level_column;
 use sums::Place;
 use tables::families::BALANCE;
 use tables::families::FIRM;
 use tables::families::SPINNING;
 use tables::names::BUILD;
 use tables::names::CAP;
+use tables::names::CHARGE;
+use tables::names::FIRMSHORT;
 use tables::names::GEN;
 use tables::names::RESERVE;
 use tables::names::RETIRE;
@@ -58,7 +64,9 @@ pub fn column_sums(data: &[u32], ms: &[i64], tables_at: &Starts, rows_at: &RowSt
         UNMET => shortfall_column(ms, rows_at, c, BALANCE, p.year, p.first, p.slice),
         SURPLUS => surplus_column(ms, rows_at, c, p.year, p.first, p.slice),
         SPINSHORT => shortfall_column(ms, rows_at, c, SPINNING, p.year, p.first, p.slice),
-        // firmshort
-        _ => shortfall_column(ms, rows_at, c, FIRM, p.year, p.first, p.slice),
+        FIRMSHORT => shortfall_column(ms, rows_at, c, FIRM, p.year, p.first, p.slice),
+        CHARGE => charge_column(data, ms, tables_at, rows_at, c, p.year, p.first, p.slice),
+        // level
+        _ => level_column(data, ms, tables_at, rows_at, c, p.year, p.first, p.slice),
     }
 }

@@ -33,7 +33,7 @@ pub fn join(p: Pair, q: Pair) -> Pair
 }
 
 // A term with the coefficient a.
-fn add(p: Pair, a: u64, m: Multiplier) -> Pair
+pub fn add(p: Pair, a: u64, m: Multiplier) -> Pair
     ensures { λ r. ⌜ r ≡ added p a m ⌝ }
 {
     let up = p.up;
@@ -45,7 +45,7 @@ fn add(p: Pair, a: u64, m: Multiplier) -> Pair
 }
 
 // A term with the coefficient −a.
-fn take(p: Pair, a: u64, m: Multiplier) -> Pair
+pub fn take(p: Pair, a: u64, m: Multiplier) -> Pair
     ensures { λ r. ⌜ r ≡ taken p a m ⌝ }
 {
     let up = p.up;

@@ -17,7 +17,6 @@ use tables::names::FUEL;
 use tables::names::KIND;
 use tables::names::LOSS;
 use tables::names::MIN_LOAD;
-use tables::names::VRE;
 use tables::names::YEAR;
 use tables::names::ZONE;
 use tables::starts::Starts;
@@ -28,7 +27,7 @@ ghost use Prim.Native.Nat.{_*_, _-_, _%_, _<_};
 ghost use lib.Dec.{ltb};
 ghost use Rattle.sums.specs.Span.{fine};
 ghost use Rattle.model.specs.Counts.{slicesOf};
-ghost use Rattle.model.specs.Data.{read, zone, fuel, isVre, onMinLoadDay, duration, availability, rate, weight, annuity, loss};
+ghost use Rattle.model.specs.Data.{read, zone, fuel, onMinLoadDay, duration, availability, rate, weight, annuity, loss};
 ghost use Rattle.model.specs.Families.{seasonSum, outOfService};
 ghost use Rattle.model.specs.Tests.{entriesFault};
 ghost use Rattle.tables.specs.Layout.{Counted, TablesAt};
@@ -53,13 +52,6 @@ pub fn fuel_of(data: &[u32], tables_at: &Starts, c: Counts, g: usize) -> usize
     ensures { λ r. ⌜ (r ≡ fuel (read (now («data» .entry))) g) × (r < c .fuels) ⌝ }
 {
     place(by_plant(data, tables_at, c, FUEL, g))
-}
-
-pub fn is_vre(data: &[u32], tables_at: &Starts, c: Counts, g: usize) -> bool
-    requires { ⌜ TablesAt (now «data») (now «tables_at») c × (g < c .plants) ⌝ }
-    ensures { λ r. ⌜ r ≡ isVre (read (now («data» .entry))) g ⌝ }
-{
-    by_plant(data, tables_at, c, VRE, g) == 1
 }
 
 // t > 0

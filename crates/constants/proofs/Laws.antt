@@ -13,7 +13,7 @@ use Rattle.sums.specs.Span.{fine}
 use Rattle.sums.specs.Index.{index, Member}
 use Rattle.sums.proofs.Lists.{Alls, at-place, _and_}
 use Rattle.model.specs.declared.Counts.{Counts}
-use Rattle.model.specs.Data.{Data, read, ee, prm, tableBoxes, afterFirstHour, onMinLoadDay, isVre}
+use Rattle.model.specs.Data.{Data, read, ee, prm, tableBoxes, afterFirstHour, onMinLoadDay, isVre, isBattery}
 use Rattle.model.specs.Families.{Equation, familyOf, equation, equations, rowBoxes, empty, outOfService, familyCount}
 use Rattle.model.specs.Tests.{entriesFault}
 use Rattle.model.proofs.Sound.{entry-range}
@@ -45,6 +45,9 @@ on-zero false = refl
 under : (b : Bool) → (on b 0 ≡ 0) × (on b 0 ≡ 0)
 under b = (on-zero b, on-zero b)
 
+under-both : (a b : Bool) → (on a (on b 0) ≡ 0) × (on a (on b 0) ≡ 0)
+under-both a b = rw (on-zero b) (under a)
+
 -- where the flag is off, an equation has no constant
 abbrev NoneUnless : Bool → Equation → Type 0
 NoneUnless true e = Unit {0}
@@ -59,7 +62,10 @@ module _ (D : Data) (y i j s : ℕ) where
       and under (afterFirstHour D s) and under (afterFirstHour D s) and under (onMinLoadDay D s)
       and (refl, refl) and under (isVre D i)
       and tt and under (outOfService D y i) and (refl, refl)
-      and tt and tt and tt and tt and tt and tt and tt
+      and tt and tt and tt and tt and tt and tt
+      and under (isBattery D i) and (refl, refl)
+      and under-both (isBattery D i) (afterFirstHour D s) and under-both (isBattery D i) (afterFirstHour D s)
+      and tt and tt
 
   pub without : (k : ℕ) → k < familyCount → hasConstant k ≡ false → noConstant ≡ constantOf D (index k y i j s)
   unfolding constantOf
@@ -98,7 +104,7 @@ member-at c K e m = rw e at m
 
 -- the families that have an arm of their own
 abbrev arms : List ℕ
-arms = 0 ∷ 1 ∷ 2 ∷ 3 ∷ 11 ∷ 14 ∷ 15 ∷ 16 ∷ 17 ∷ 18 ∷ 19 ∷ []
+arms = 0 ∷ 1 ∷ 2 ∷ 3 ∷ 11 ∷ 14 ∷ 15 ∷ 16 ∷ 17 ∷ 18 ∷ 19 ∷ 24 ∷ []
 
 -- flags that are those of a test, place by place
 abbrev flags : (ℕ → Bool) → ℕ → ℕ → List Bool

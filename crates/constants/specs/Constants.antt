@@ -26,6 +26,7 @@ constantFamilies =
     ∷ false ∷ false ∷ false ∷ false ∷ false ∷ false ∷ false         -- 5 to 11
     ∷ true ∷ false ∷ false                                          -- 12 to 14
     ∷ true ∷ true ∷ true ∷ true ∷ true ∷ true                       -- 15 to 20
+    ∷ false ∷ false ∷ false ∷ false ∷ true                          -- 21 to 25
     ∷ []
 
 unfoldable pub hasConstant : ℕ → Bool

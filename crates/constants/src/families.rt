@@ -3,6 +3,7 @@ use crate::Constant;
 use crate::NONE;
 use crate::fleet::capital_constant;
 use crate::fleet::fuel_use_constant;
+use crate::fleet::level_limit_constant;
 use crate::fleet::new_capacity_constant;
 use crate::fleet::stock_constant;
 use crate::fleet::system_emission_constant;
@@ -19,6 +20,7 @@ use tables::families::BALANCE;
 use tables::families::CAPITAL;
 use tables::families::FIRM;
 use tables::families::FUEL_USE;
+use tables::families::LEVEL_LIMIT;
 use tables::families::NEW_CAPACITY;
 use tables::families::SPINNING;
 use tables::families::STOCK;
@@ -55,12 +57,13 @@ pub fn constant_at(data: &[u32], tables_at: &Starts, c: Counts, p: Place) -> Con
         CAPITAL => capital_constant(data, tables_at, c),
         ZONE_EMISSION => zone_emission_constant(data, tables_at, c, p.year, p.first),
         SYSTEM_EMISSION => system_emission_constant(data, tables_at, c, p.year),
-        // 5 to 11, 13 and 14
+        LEVEL_LIMIT => level_limit_constant(data, tables_at, c, p.first),
+        // 5 to 11, 13, 14 and 21 to 24
         _ => NONE,
     }
 }
 
-// Whether the rows of each family have a constant, in document 01's order.
+// Whether the rows of each family have a constant, in the order of documents 01 and 02.
 const CONSTANT_FAMILIES: [bool; FAMILY_COUNT] = [
     true, // 1 balance
     true, // 2 transfer
@@ -82,6 +85,11 @@ const CONSTANT_FAMILIES: [bool; FAMILY_COUNT] = [
     true, // 18 capital
     true, // 19 zone emission
     true, // 20 system emission
+    false, // 21 battery level
+    false, // 22 charge limit
+    false, // 23 charge rise
+    false, // 24 charge fall
+    true, // 25 level limit
 ];
 
 pub fn has_constant(k: usize) -> bool

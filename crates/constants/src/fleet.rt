@@ -1,4 +1,4 @@
-// Families 12 and 15 to 20: the constants of the rows of the fleet.
+// Families 12, 15 to 20 and 25: the constants of the rows of the fleet.
 use crate::Constant;
 use crate::NONE;
 use model::Counts;
@@ -8,6 +8,7 @@ use tables::entries::by_year_fuel;
 use tables::entries::by_year_zone;
 use tables::entries::single;
 use tables::names::BUILD_LIMIT;
+use tables::names::ENERGY_CAPACITY;
 use tables::names::GEN_CAP;
 use tables::names::KIND;
 use tables::names::MAX_CAPITAL;
@@ -16,6 +17,7 @@ use tables::names::MAX_NEW_CAP;
 use tables::names::SYSTEM_CAP;
 use tables::names::WEIGHT;
 use tables::names::ZONE_CAP;
+use tables::plants::is_battery;
 use tables::starts::Starts;
 ghost use mathlib.Core.Path.{_≡_};
 ghost use Prim.Native.Nat.{_<_};
@@ -111,6 +113,20 @@ pub fn system_emission_constant(data: &[u32], tables_at: &Starts, c: Counts, y: 
 {
     Constant {
         adds: 1000 * by_year(data, tables_at, c, SYSTEM_CAP, y),
+        takes: 0,
+    }
+}
+
+// 25, battery: energy capacity, the same in every year and slice
+pub fn level_limit_constant(data: &[u32], tables_at: &Starts, c: Counts, g: usize) -> Constant
+    requires { ⌜ TablesAt (now «data») (now «tables_at») c × (g < c .plants) ⌝ }
+    ensures { λ r. ⌜ r ≡ constantOf (read (now («data» .entry))) (row 25 0 g 0 0) ⌝ }
+{
+    if !is_battery(data, tables_at, c, g) {
+        return NONE;
+    }
+    Constant {
+        adds: by_plant(data, tables_at, c, ENERGY_CAPACITY, g),
         takes: 0,
     }
 }

@@ -1,22 +1,22 @@
 -- The tests of the data: what each says, and what callers have of data that passed them all. Assumes nothing.
 use mathlib.Core.Path.{_≡_, refl, sym, ap, _∙_}
-use mathlib.Core.Bool.{Bool}
+use mathlib.Core.Bool.{Bool, true, false, _&&_}
 use mathlib.Core.List.{List}
 use Prim.Native.Nat.{ℕ, _≤_, _<_}
 use native.Mathlib.Omega.{arith}
 use borrow.Author.Tests.{le-leb, lt-leb, eq-eqb, ne-eqb, leb-true, eqb-true}
 use lib.Dec.{eqb, leb}
 use lib.ListN.{length, getD}
-use Rattle.sums.specs.Span.{Fault, fine, fault, orElse}
+use Rattle.sums.specs.Span.{Fault, fine, fault, orElse, upto}
 use Rattle.sums.specs.Index.{count}
 use Rattle.sums.proofs.Spans.{orElse-fine}
 use Rattle.model.specs.declared.Outcome.{Outcome}
 use Rattle.model.specs.declared.Outcome.the-variants.{Fine, Fails}
 use Rattle.model.specs.declared.Refusal.{Refusal}
-use Rattle.model.specs.declared.Refusal.the-variants.{Shape, DataLength}
+use Rattle.model.specs.declared.Refusal.the-variants.{Shape, DataLength, Storage}
 use Rattle.model.specs.declared.Counts.{Counts}
-use Rattle.model.specs.Data.{within, _to_, mostCounts, countsOf, dataLength, read, tableCount}
-use Rattle.model.specs.Tests.{unless, headFault, countFault, countsFault, lengthFault, entriesFault, dataFault}
+use Rattle.model.specs.Data.{Data, isBattery, isVre, within, _to_, mostCounts, countsOf, dataLength, read, tableCount}
+use Rattle.model.specs.Tests.{unless, headFault, countFault, countsFault, lengthFault, entriesFault, plantStorageFault, storageFault, dataFault}
 use Rattle.model.proofs.Sound.{count-range, passed}
 use Rattle.model.specs.Columns.{columnSets, columnBoxes, columnKindCount}
 use Rattle.tables.specs.Layout.{outcome, Counted, TablesAt, ColumnsAt, startFrom, tableSets}
@@ -113,15 +113,34 @@ module _ (l : List ℕ) where
         fewYears = y .1;
       }
 
+-- a plant's test of refusal 16, as the code answers it
+module _ (D : Data) (g : ℕ) {found : Bool} (tested : found ≡ (isBattery D g && isVre D g)) where
+  pub plant-refused : found ≡ true → plantStorageFault D g ≡ fault (Storage g)
+  unfolding plantStorageFault unless
+  plant-refused e = rw (← tested, e)
+
+  pub plant-passed : found ≡ false → plantStorageFault D g ≡ fine
+  unfolding plantStorageFault unless
+  plant-passed e = rw (← tested, e)
+
+-- all plants passed it
+pub all-passed : (D : Data) {c : Counts} {n : ℕ} → D .counts ≡ c → n ≡ c .plants → upto n (plantStorageFault D) ≡ fine → storageFault D ≡ fine
+unfolding storageFault
+all-passed D e q h = ap (λ (k : ℕ). upto k (plantStorageFault D)) (ap (λ (k : Counts). k .plants) e ∙ sym q) ∙ h
+
 -- Data that passed, for callers
 
 -- refusals 1 and 2
 abbrev pub headFaults : List ℕ → Fault Refusal
 headFaults l = orElse (headFault l) (orElse (countsFault l) (lengthFault l))
 
-pub data-faults : (l : List ℕ) → dataFault l ≡ orElse (headFaults l) (entriesFault (read l))
+-- refusals 3 and 16
+abbrev pub tableFaults : List ℕ → Fault Refusal
+tableFaults l = orElse (entriesFault (read l)) (storageFault (read l))
+
+pub data-faults : (l : List ℕ) → dataFault l ≡ orElse (headFaults l) (tableFaults l)
 unfolding dataFault
-data-faults l = sym (in-turn (headFault l) (countsFault l) (lengthFault l) (entriesFault (read l)))
+data-faults l = sym (in-turn (headFault l) (countsFault l) (lengthFault l) (tableFaults l))
 
 module _ (l : List ℕ) (sound : headFaults l ≡ fine) where
   parts : (headFault l ≡ fine) × (countsFault l ≡ fine) × (lengthFault l ≡ fine)
@@ -146,14 +165,14 @@ module _ (l : List ℕ) (sound : headFaults l ≡ fine) where
       }
 
 module _ (l : List ℕ) (sound : dataFault l ≡ fine) where
-  both-parts : (headFaults l ≡ fine) × (entriesFault (read l) ≡ fine)
-  both-parts = orElse-fine (headFaults l) (entriesFault (read l)) (sym (data-faults l) ∙ sound)
+  both-parts : (headFaults l ≡ fine) × (tableFaults l ≡ fine)
+  both-parts = orElse-fine (headFaults l) (tableFaults l) (sym (data-faults l) ∙ sound)
 
   pub sound-head : headFaults l ≡ fine
   sound-head = both-parts .0
 
   pub sound-entries : entriesFault (read l) ≡ fine
-  sound-entries = both-parts .1
+  sound-entries = orElse-fine (entriesFault (read l)) (storageFault (read l)) (both-parts .1) .0
 
   pub sound-counts : Counted (countsOf l)
   sound-counts = passed-counts l sound-head

@@ -1,7 +1,9 @@
-// The tests of the data: refusals 1, 2 and 3.
+// The tests of the data: refusals 1, 2, 3 and 16.
 use ranges::Range;
 use ranges::in_range;
 use ranges::range_at;
+use tables::plants::is_battery;
+use tables::plants::is_vre;
 use tables::starts::Starts;
 use tables::starts::table_box;
 use tables::starts::table_starts;
@@ -10,11 +12,12 @@ use model::Outcome;
 use model::Refusal;
 use model::TABLE_COUNT;
 ghost use mathlib.Core.Path.{_≡_};
+ghost use mathlib.Core.Bool.{_&&_};
 ghost use Prim.Native.Nat.{_≤_, _<_};
 ghost use lib.ListN.{length, getD};
 ghost use Rattle.sums.specs.Span.{fine, orElse};
-ghost use Rattle.model.specs.Data.{countsOf, mostCounts, read};
-ghost use Rattle.model.specs.Tests.{headFault, countsFault, lengthFault, entriesFault, dataFault};
+ghost use Rattle.model.specs.Data.{countsOf, mostCounts, read, isBattery, isVre};
+ghost use Rattle.model.specs.Tests.{headFault, countsFault, lengthFault, entriesFault, storageFault, dataFault};
 ghost use Rattle.tables.specs.Layout.{outcome, TablesAt};
 
 // The largest that each count may be.
@@ -119,6 +122,42 @@ pub fn test_entries(data: &[u32], tables_at: &Starts, c: Counts) -> Outcome
     answer
 }
 
+fn is_vre_battery(data: &[u32], tables_at: &Starts, c: Counts, g: usize) -> bool
+    requires { ⌜ TablesAt (now «data») (now «tables_at») c × (g < c .plants) ⌝ }
+    ensures { λ r. ⌜ r ≡ (isBattery (read (now («data» .entry))) g && isVre (read (now («data» .entry))) g) ⌝ }
+{
+    if is_battery(data, tables_at, c, g) {
+        return is_vre(data, tables_at, c, g);
+    }
+    false
+}
+
+// Refusal 16: the lowest plant that is a battery and has VRE set.
+fn test_storage(data: &[u32], tables_at: &Starts, c: Counts) -> Outcome
+    requires { ⌜ TablesAt (now «data») (now «tables_at») c ⌝ }
+    ensures { λ r. ⌜ r ≡ outcome (storageFault (read (now («data» .entry)))) ⌝ }
+{
+    for g in 0..c.plants {
+        if is_vre_battery(data, tables_at, c, g) {
+            return Outcome::Fails(Refusal::Storage(g));
+        }
+    }
+    Outcome::Fine
+}
+
+// Refusals 3 and 16: all entries before any battery.
+fn test_tables(data: &[u32], tables_at: &Starts, c: Counts) -> Outcome
+    requires { ⌜ TablesAt (now «data») (now «tables_at») c ⌝ }
+    ensures { λ r. ⌜ r ≡ outcome (orElse (entriesFault (read (now («data» .entry)))) (storageFault (read (now («data» .entry))))) ⌝ }
+{
+    let entries = test_entries(data, tables_at, c);
+    match entries {
+        Outcome::Fails(_) => return entries,
+        Outcome::Fine => {}
+    }
+    test_storage(data, tables_at, c)
+}
+
 // All of it.
 pub fn test_data(data: &[u32]) -> Outcome
     ensures { λ r. ⌜ r ≡ outcome (dataFault (now («data» .entry))) ⌝ }
@@ -130,5 +169,5 @@ pub fn test_data(data: &[u32]) -> Outcome
     }
     let c = counts_of(data);
     let tables_at = table_starts(c);
-    test_entries(data, &tables_at, c)
+    test_tables(data, &tables_at, c)
 }

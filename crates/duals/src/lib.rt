@@ -8,7 +8,11 @@ use model::Shape;
 use sums::Place;
 use tables::families::AVAILABLE;
 use tables::families::BALANCE;
+use tables::families::BATTERY_LEVEL;
 use tables::families::CAPITAL;
+use tables::families::CHARGE_FALL;
+use tables::families::CHARGE_LIMIT;
+use tables::families::CHARGE_RISE;
 use tables::families::FIRM;
 use tables::families::FIXED;
 use tables::families::FUEL_USE;
@@ -22,6 +26,7 @@ use tables::families::RAMP_DOWN;
 use tables::families::RAMP_UPWARD;
 use tables::families::SPINNING;
 use tables::families::STOCK;
+use tables::families::SYSTEM_EMISSION;
 use tables::families::TRANSFER;
 use tables::families::YEARLY_BUILD;
 use tables::families::ZONE_EMISSION;
@@ -123,7 +128,13 @@ fn set_of(k: usize) -> usize
         FUEL_USE => BY_YEAR_ZONE_FUEL,
         CAPITAL => SINGLE,
         ZONE_EMISSION => BY_YEAR_ZONE,
-        _ => BY_YEAR,
+        SYSTEM_EMISSION => BY_YEAR,
+        BATTERY_LEVEL => BY_YEAR_PLANT_SLICE,
+        CHARGE_LIMIT => BY_YEAR_PLANT_SLICE,
+        CHARGE_RISE => BY_YEAR_PLANT_SLICE,
+        CHARGE_FALL => BY_YEAR_PLANT_SLICE,
+        // LEVEL_LIMIT
+        _ => BY_YEAR_PLANT_SLICE,
     }
 }
 

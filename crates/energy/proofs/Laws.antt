@@ -14,6 +14,7 @@ use Rattle.capped.specs.declared.Sum.{Sum}
 use Rattle.capped.specs.Cap.{cap, plus, times, keptAs, keptSum}
 use Rattle.capped.proofs.Laws.{plus-cap, both-cap, times-cap, kept-cap}
 use Rattle.sums.specs.Sum.{sum, largest, on}
+use Rattle.sums.proofs.Tests.{on-both}
 use Rattle.sums.proofs.Sums.{sum-one-more, sum-cong, sum-scale, sum-flat}
 use Rattle.sums.proofs.Largest.{largest-same, largest-one, highest, highest-halves}
 use Rattle.sums.proofs.Numbering.{below-product, digits}
@@ -197,10 +198,6 @@ pub all-cap : (n : ℕ) (p : ℕ → Bool) (f : ℕ → Sum) (h : ℕ → ℕ) �
 unfolding allIf sum
 all-cap zero p f h e = refl
 all-cap (suc n) p f h e = rw (all-cap n p f h (λ i l. e i (omega arith)), e n (omega arith)) (if-cap (p n) (sum n (λ i. on (p i) (h i))) (h n))
-
-on-both : (a b : Bool) (n : ℕ) → on (a && b) n ≡ on a (on b n)
-on-both true b n = refl
-on-both false b n = refl
 
 -- the slices of a year, season by season
 slices-by-season : (c : Counts) (f : ℕ → ℕ) → sum (slicesOf c) f ≡ sum (c .seasons) (λ q. sum (seasonLength c) (λ i. f (q * seasonLength c + i)))

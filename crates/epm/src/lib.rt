@@ -46,7 +46,7 @@ fn price(data: &[u32], scale: u32, plan: &[u32], tables_at: &Starts, columns_at:
     }
 }
 
-// check: data, N, plan; the cost, or the first refusal in document 01's order.
+// check: data, N, plan; the cost, or the first refusal in the order of documents 01 and 02.
 pub fn check(data: &[u32], scale: u32, plan: &[u32]) -> Answer
     ensures { λ r. ⌜ (answerCode r ≡ answerCode (checkSpec (now («data» .entry)) scale (now (plan .entry))))
         × (r ≡ checkSpec (now («data» .entry)) scale (now (plan .entry))) ⌝ }
@@ -65,7 +65,7 @@ pub fn check(data: &[u32], scale: u32, plan: &[u32]) -> Answer
     price(data, scale, plan, &tables_at, &columns_at, c)
 }
 
-// certify: data, N, plan, one multiplier for each row; cost and gap, or the first refusal in document 01's order.
+// certify: data, N, plan, one multiplier for each row; cost and gap, or the first refusal in the order of documents 01 and 02.
 // Demand 3 is the last part of its contract: an issued certificate binds every rival plan at every scale (`Binds`, model/specs/Rival.antt).
 pub fn certify(data: &[u32], scale: u32, plan: &[u32], multipliers: &[i64]) -> Certificate
     ensures { λ r. ⌜ (certificateCode r ≡ certificateCode (certifySpec (now («data» .entry)) scale (now (plan .entry)) (now (multipliers .entry))))

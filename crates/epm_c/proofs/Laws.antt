@@ -9,7 +9,7 @@ use lib.ListN.{length, getD}
 use borrow.Author.Tests.{le-ltb}
 use Rattle.model.specs.declared.Code.{Code}
 use Rattle.model.specs.declared.Refusal.{Refusal}
-use Rattle.model.specs.declared.Refusal.the-variants.{Shape, DataLength, Entry, Scale, PlanLength, RowOffScale, Broken, CostOffScale, MultiplierCount, Multiplier, ColumnOffScale, Underpriced, GapOffScale, Board, Frame}
+use Rattle.model.specs.declared.Refusal.the-variants.{Shape, DataLength, Entry, Scale, PlanLength, RowOffScale, Broken, CostOffScale, MultiplierCount, Multiplier, ColumnOffScale, Underpriced, GapOffScale, Board, Frame, Storage}
 use Rattle.model.specs.declared.Certificate.{Certificate}
 use Rattle.model.specs.declared.Certificate.the-variants.{Issued, Withheld}
 use Rattle.model.specs.Data.{read}
@@ -45,6 +45,7 @@ refused (Underpriced c) e = omega arith
 refused GapOffScale e = omega arith
 refused Board e = omega arith
 refused (Frame n) e = omega arith
+refused (Storage g) e = omega arith
 
 -- an answer of certify by its number and figures
 code-binds : (l : List ℕ) (N : ℕ) (a : Certificate) → Binds l N a → certificateCode a .number ≡ 0

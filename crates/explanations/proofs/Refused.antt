@@ -1,57 +1,28 @@
 -- Where certify withholds with a refusal, what the refusal's place asks stands. Assumes nothing.
-use mathlib.Core.Path.{_≡_, refl, sym, subst}
-use mathlib.Core.Bool.{Bool, true, false}
+use mathlib.Core.Path.{_≡_, subst}
+use mathlib.Core.Bool.{Bool}
 use mathlib.Core.List.{List}
-use Prim.Native.Nat.{ℕ, zero, suc, _<_}
+use Prim.Native.Nat.{ℕ, _<_}
 use native.Mathlib.Omega.{arith}
 use borrow.Author.Tests.{leb-true, eqb-true}
 use lib.IntN.{ℤ}
 use lib.ListN.{length}
-use Rattle.sums.specs.Span.{Span, one, each, In, Fault, fine, fault, orElse, upto, first}
+use Rattle.sums.specs.Span.{Fault, fine, fault, orElse, first}
 use Rattle.sums.specs.declared.Box.{Box}
 use Rattle.sums.specs.Index.{Index, index, count, number, members}
-use Rattle.sums.proofs.Spans.{fault-fine, orElse-fine}
+use Rattle.sums.proofs.Spans.{orElse-fine, from-either, from-range, from-member}
 use Rattle.sums.proofs.Indices.{in-member}
 use Rattle.sums.proofs.Numbering.{number-bound}
 use Rattle.model.specs.declared.Refusal.{Refusal}
 use Rattle.model.specs.declared.Certificate.the-variants.{Withheld}
-use Rattle.model.specs.Data.{tableBoxes, placeOf, dataLength, read}
+use Rattle.model.specs.Data.{tableBoxes, placeOf, dataLength, read, G}
 use Rattle.model.specs.Columns.{columnBoxes, columnNumber, entries}
 use Rattle.model.specs.Families.{rowBoxes, rowNumber}
-use Rattle.model.specs.Tests.{unless, headFault, countFault, countsFault, lengthFault, entryFault, entriesFault, dataFault, scaleFault, planLengthFault, rowFault, rowsFault, costFault, planFault, multiplierCountFault, multiplierFault, multipliersFault, columnFault, columnsFault, gapFault, dualFault}
+use Rattle.model.specs.Tests.{unless, headFault, countFault, countsFault, lengthFault, entryFault, entriesFault, plantStorageFault, storageFault, dataFault, scaleFault, planLengthFault, rowFault, rowsFault, costFault, planFault, multiplierCountFault, multiplierFault, multipliersFault, columnFault, columnsFault, gapFault, dualFault}
 use Rattle.model.specs.Calls.{certificate, checkFault, certifyFault, certify}
-use Rattle.model.proofs.Sound.{passed}
-use Rattle.sentences.specs.Asked.{OfRow, OfColumn}
+use Rattle.model.proofs.Sound.{passed, own-refusal}
+use Rattle.sentences.specs.Asked.{OfRow, OfColumn, HeadFine}
 use Rattle.explanations.specs.Asked.{Asked}
-
--- where the fault of tests in order comes from
-module _ {R : Type 0} {r : R} where
-  -- the first test gave it, or it passed and the rest gave it
-  pub from-either : (f g : Fault R) {A : Type 0} → orElse f g ≡ fault r → (f ≡ fault r → A) → (f ≡ fine → g ≡ fault r → A) → A
-  unfolding orElse
-  from-either fine g e a b = b refl e
-  from-either (fault s) g e a b = a e
-
-  -- one test of a range gave it
-  pub from-range : (n : ℕ) (t : ℕ → Fault R) → upto n t ≡ fault r → (i : ℕ) × (i < n) × (t i ≡ fault r)
-  unfolding upto
-  from-range zero t e = fault-fine (sym e)
-  from-range (suc n) t e =
-      from-either (upto n t) (t n) e (λ p. let d = from-range n t p in (d .0, omega (arith, d .1), d .2)) (λ _ q. (n, omega arith, q))
-
-  -- one member gave it
-  pub from-member : {K : Type 0} (s : Span K) (t : K → Fault R) → first s t ≡ fault r → (k : K) × In s k × (t k ≡ fault r)
-  from-member (one k) t e = (k, refl, e)
-  from-member (each n B) t e =
-      let d = from-range n (λ i. first (B i) t) e in
-      let m = from-member (B (d .0)) t (d .2) in
-      (m .0, (d .0, d .1, m .1), m .2)
-
--- a test refuses with its own refusal
-pub own-refusal : (b : Bool) (q : Refusal) {r : Refusal} → unless b q ≡ fault r → q ≡ r
-unfolding unless
-own-refusal true q e = fault-fine (sym e)
-own-refusal false q e = cc
 
 -- certify withholds with the fault of its tests
 withheld-fault : (f : Fault Refusal) (c g : ℕ) {r : Refusal} → certificate f c g ≡ Withheld r → f ≡ fault r
@@ -63,6 +34,10 @@ numbered-member : (boxes : List Box) (t : Index → Fault Refusal) {r : Refusal}
 numbered-member boxes t e =
     let m = from-member (members boxes) t e in
     (m .0, number-bound boxes (m .0) (in-member boxes (m .0) (m .1)), m .2)
+
+head-fine : (l : List ℕ) → headFault l ≡ fine → countsFault l ≡ fine → lengthFault l ≡ fine → HeadFine l
+unfolding orElse
+head-fine l a b c = rw (a, b) c
 
 module _ (l : List ℕ) (plan : List ℕ) (ms : List ℤ) {r : Refusal} where
   -- by a test with its own refusal
@@ -76,16 +51,22 @@ module _ (l : List ℕ) (plan : List ℕ) (ms : List ℤ) {r : Refusal} where
       let d = from-range 7 (countFault l) e in
       asked-by _ _ (leb-true 7 (length l) (passed _ _ h), d .1) (d .2)
 
-  entry-asked : orElse (headFault l) (orElse (countsFault l) (lengthFault l)) ≡ fine → (k : Index) → number (tableBoxes (read l .counts)) k < count (tableBoxes (read l .counts))
+  entry-asked : HeadFine l → (k : Index) → number (tableBoxes (read l .counts)) k < count (tableBoxes (read l .counts))
       → entryFault (read l) k ≡ fault r → Asked l plan ms r
   unfolding entryFault placeOf dataLength
   entry-asked h (index t y i j s) m e = asked-by _ _ (h, (omega arith, omega (arith, m))) e
 
-  entries-asked : headFault l ≡ fine → countsFault l ≡ fine → lengthFault l ≡ fine → entriesFault (read l) ≡ fault r → Asked l plan ms r
-  unfolding entriesFault orElse
-  entries-asked a b c e =
+  entries-asked : HeadFine l → entriesFault (read l) ≡ fault r → Asked l plan ms r
+  unfolding entriesFault
+  entries-asked h e =
       let m = numbered-member (tableBoxes (read l .counts)) (entryFault (read l)) e in
-      entry-asked (rw (a, b) c) (m .0) (m .1) (m .2)
+      entry-asked h (m .0) (m .1) (m .2)
+
+  storage-asked : HeadFine l → storageFault (read l) ≡ fault r → Asked l plan ms r
+  unfolding storageFault plantStorageFault
+  storage-asked h e =
+      let d = from-range (G (read l)) (plantStorageFault (read l)) e in
+      asked-by _ _ (h, d .1) (d .2)
 
   pub data-asked : dataFault l ≡ fault r → Asked l plan ms r
   unfolding dataFault headFault lengthFault
@@ -93,7 +74,9 @@ module _ (l : List ℕ) (plan : List ℕ) (ms : List ℤ) {r : Refusal} where
       from-either (headFault l) _ e (λ p. asked-by _ _ tt p) (λ a e1.
       from-either (countsFault l) _ e1 (counts-asked a) (λ b e2.
       from-either (lengthFault l) _ e2 (λ p. asked-by _ _ tt p) (λ c e3.
-      entries-asked a b c e3)))
+      let h = head-fine l a b c in
+      from-either (entriesFault (read l)) _ e3 (entries-asked h) (λ _ e4.
+      storage-asked h e4))))
 
   -- the plan
   module _ (sound : dataFault l ≡ fine) where

@@ -4,7 +4,7 @@ use Prim.Native.Nat.{ℕ}
 use lib.IntN.{ℤ}
 use lib.ListN.{length}
 use Rattle.model.specs.declared.Refusal.{Refusal}
-use Rattle.model.specs.declared.Refusal.the-variants.{Shape, DataLength, Entry, Scale, PlanLength, RowOffScale, Broken, CostOffScale, MultiplierCount, Multiplier, ColumnOffScale, Underpriced, GapOffScale, Board, Frame}
+use Rattle.model.specs.declared.Refusal.the-variants.{Shape, DataLength, Entry, Scale, PlanLength, RowOffScale, Broken, CostOffScale, MultiplierCount, Multiplier, ColumnOffScale, Underpriced, GapOffScale, Board, Frame, Storage}
 use Rattle.model.specs.declared.Certificate.{Certificate}
 use Rattle.model.specs.declared.Certificate.the-variants.{Issued, Withheld}
 use Rattle.model.specs.Data.{read}
@@ -12,11 +12,11 @@ use Rattle.model.specs.Columns.{entries}
 use Rattle.model.specs.Calls.{codeOf}
 use Rattle.texts.specs.Claims.{bytes}
 use Rattle.writer.specs.Names.{nameAt}
-use Rattle.sentences.specs.Sentences.{with, lengthWords, shapeWords, outOfRangeWords, scaleWords, offScaleWords, brokenWords, multiplierWords, columnOffScaleWords, underpricedWords}
+use Rattle.sentences.specs.Sentences.{with, lengthWords, shapeWords, outOfRangeWords, storageWords, scaleWords, offScaleWords, brokenWords, multiplierWords, columnOffScaleWords, underpricedWords}
 
 -- the words of the refusals, by number; there is no refusal 0
 abbrev pub refusalNames : List ℕ
-refusalNames = bytes "/Shape/Data length/Entry/Scale/Plan length/Row off scale/Broken/Cost off scale/Multiplier count/Multiplier/Column off scale/Underpriced/Gap off scale/Board/Frame"
+refusalNames = bytes "/Shape/Data length/Entry/Scale/Plan length/Row off scale/Broken/Cost off scale/Multiplier count/Multiplier/Column off scale/Underpriced/Gap off scale/Board/Frame/Storage"
 
 -- a line that is not of the format
 unfoldable pub frameWords : ℕ → List ℕ
@@ -49,6 +49,7 @@ module _ (l : List ℕ) (N : ℕ) (plan : List ℕ) (ms : List ℤ) where
   bodyWords GapOffScale = bytes "a sum of the terms N*m*k is more than 2^62 - 1"
   bodyWords Board = bytes "the year is none of the plan's, or the board has too few places"
   bodyWords (Frame n) = frameWords n
+  bodyWords (Storage g) = storageWords g
 
   -- a refusal's word, then its place
   unfoldable pub refusedWords : Refusal → List ℕ

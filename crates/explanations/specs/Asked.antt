@@ -5,8 +5,8 @@ use lib.IntN.{ℤ}
 use Rattle.model.specs.declared.Certificate.{Certificate}
 use Rattle.model.specs.declared.Certificate.the-variants.{Issued, Withheld}
 use Rattle.model.specs.declared.Refusal.{Refusal}
-use Rattle.model.specs.declared.Refusal.the-variants.{Shape, DataLength, Entry, Scale, PlanLength, RowOffScale, Broken, CostOffScale, MultiplierCount, Multiplier, ColumnOffScale, Underpriced, GapOffScale, Board, Frame}
-use Rattle.sentences.specs.Asked.{OfRow, OfMultiplier, OfColumn, OfEntry, OfCount}
+use Rattle.model.specs.declared.Refusal.the-variants.{Shape, DataLength, Entry, Scale, PlanLength, RowOffScale, Broken, CostOffScale, MultiplierCount, Multiplier, ColumnOffScale, Underpriced, GapOffScale, Board, Frame, Storage}
+use Rattle.sentences.specs.Asked.{OfRow, OfMultiplier, OfColumn, OfEntry, OfPlant, OfCount}
 
 -- data, plan, multipliers and the refusal; a refusal without a place asks nothing, nor does one whose figure is a length; 14 certify never answers (`refused-asked` in proofs/Refused.antt)
 abbrev pub Asked : List ℕ → List ℕ → List ℤ → Refusal → Type 0
@@ -25,6 +25,7 @@ Asked l plan ms (Underpriced c) = OfColumn l ms c
 Asked l plan ms GapOffScale = Unit {0}
 Asked l plan ms Board = ⊥
 Asked l plan ms (Frame n) = Unit {0}
+Asked l plan ms (Storage g) = OfPlant l g
 
 -- the same of an answer
 abbrev pub AskedOf : List ℕ → List ℕ → List ℤ → Certificate → Type 0

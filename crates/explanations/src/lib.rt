@@ -11,6 +11,7 @@ use sentences::column_words::say_underpriced;
 use sentences::entry_words::say_out_of_range;
 use sentences::entry_words::say_scale;
 use sentences::entry_words::say_shape;
+use sentences::entry_words::say_storage;
 use sentences::row_words::say_broken;
 use sentences::row_words::say_multiplier;
 use sentences::row_words::say_off_scale;
@@ -70,6 +71,7 @@ fn say_body(line: &mut [u8; ROOM], at: usize, data: &[u32], scale: u32, plan: &[
         Refusal::GapOffScale => say(line, at, b"a sum of the terms N*m*k is more than 2^62 - 1"),
         Refusal::Board => say(line, at, b"the year is none of the plan's, or the board has too few places"), // never reached: certify does not answer 14 (the law `refused-asked`)
         Refusal::Frame(number) => say_frame(line, at, number),
+        Refusal::Storage(plant) => say_storage(line, at, plant),
     }
 }
 
@@ -79,7 +81,7 @@ fn say_refusal(line: &mut [u8; ROOM], at: usize, data: &[u32], scale: u32, plan:
     ensures { λ r. ⌜ Said (now (line .entry)) at (refusedWords (now («data» .entry)) scale (now (plan .entry)) (now (multipliers .entry)) refusal) r (now (line .exit)) ⌝ }
 {
     let code = code_of(refusal);
-    let named = say_name(line, at, b"/Shape/Data length/Entry/Scale/Plan length/Row off scale/Broken/Cost off scale/Multiplier count/Multiplier/Column off scale/Underpriced/Gap off scale/Board/Frame", code.number as usize);
+    let named = say_name(line, at, b"/Shape/Data length/Entry/Scale/Plan length/Row off scale/Broken/Cost off scale/Multiplier count/Multiplier/Column off scale/Underpriced/Gap off scale/Board/Frame/Storage", code.number as usize);
     let parted = say(line, named, b": ");
     let placed = say_body(line, parted, data, scale, plan, multipliers, refusal);
     say(line, placed, b"\n")

@@ -2,7 +2,7 @@
 use mathlib.Core.Path.{_≡_, refl, ap, _∙_, subst}
 use mathlib.Core.Bool.{Bool, true, false, _&&_}
 use mathlib.Core.List.{List}
-use Prim.Native.Nat.{ℕ, _+_, _-_, _<_}
+use Prim.Native.Nat.{ℕ, _+_, _*_, _-_, _≤_, _<_}
 use native.Mathlib.Omega.{arith}
 use lib.Dec.{leb}
 use lib.IntN.{ℤ}
@@ -21,12 +21,16 @@ use Rattle.model.specs.declared.Counts.{Counts}
 use Rattle.model.specs.declared.Refusal.the-variants.{ColumnOffScale, Underpriced}
 use Rattle.model.specs.Data as spec
 use Rattle.model.specs.Data.{Data, tableBoxes, countsOf, placeOf, dataLength, read}
-use Rattle.model.specs.Columns.{columnNumber, entries}
+use Rattle.model.specs.Counts.{slicesOf, [ygs]}
+use Rattle.model.specs.Columns.{columnSets, columnKindCount, columnNumber, entries}
+use Rattle.model.specs.Families.{rowBoxes}
 use Rattle.model.specs.Prices.{price}
 use Rattle.model.specs.Tests.{unless, priced⁺, priced⁻, columnFault}
 use Rattle.model.proofs.Sound.{both}
 use Rattle.ranges.specs.declared.Range.{Range}
-use Rattle.tables.specs.Layout.{TablesAt, planEntry}
+use Rattle.tables.specs.Layout.{Counted, TablesAt, ColumnsAt, planEntry}
+use Rattle.tables.proofs.Members.{row-inside, year-inside}
+use Rattle.parts.proofs.Parts.{places-are, part-asked}
 use Rattle.ranges.specs.Ranges.{ranged, rangeOf}
 use Rattle.rows.specs.declared.Sides.{Sides}
 use Rattle.rows.specs.Ready.{sidesOf}
@@ -51,6 +55,12 @@ entry-in {l} n m p = omega (arith, entry-below (read l .counts) m, n .whole, ap 
 -- the same members at the counts that the code holds
 pub counted-alike : (boxes : Counts → List Box) (r : Index) {c d : Counts} → d ≡ c → Member (boxes d) r → Member (boxes c) r
 counted-alike boxes r e m = subst (λ (d : Counts). Member (boxes d) r) e m
+
+-- of a row's year, the part of a kind of column by year, plant and slice is in the plan
+pub row-part : {plan columns-at : List ℕ} {c : Counts} {k y i j s n : ℕ} → Counted c → ColumnsAt plan columns-at c → Member (rowBoxes c) (index k y i j s) → n ≡ slicesOf c
+    → (t : ℕ) → t < columnKindCount → getD columnSets t 0 ≡ [ygs]
+    → (getD columns-at t 0 + (y + 1) * (c .plants * n) ≤ length plan) × ((c .plants * n ≤ 12288) × (y < 10))
+row-part {c = c} few at m e t ht q = part-asked few at (year-inside few (row-inside c m .1)) (places-are c e) t ht q
 
 -- The figures
 

@@ -21,7 +21,9 @@ use rows::families::row_sides;
 use sums::Place;
 use tables::entries::number_at;
 use tables::entries::wide;
+use tables::names::CHARGE;
 use tables::names::GEN;
+use tables::names::LEVEL;
 use tables::names::RESERVE;
 use tables::sets::shape_of;
 use tables::sets::slices_of;
@@ -84,10 +86,12 @@ fn sides_at(data: &[u32], plan: &[u32], energy: &EnergyTable, tables_at: &Starts
     let places = c.plants * slices_of(c);
     let outputs = year_part(plan, columns_at[GEN], places, p.year);
     let reserves = year_part(plan, columns_at[RESERVE], places, p.year);
-    row_sides(data, plan, outputs, reserves, energy, tables_at, columns_at, c, scale, p)
+    let charges = year_part(plan, columns_at[CHARGE], places, p.year);
+    let levels = year_part(plan, columns_at[LEVEL], places, p.year);
+    row_sides(data, plan, outputs, reserves, charges, levels, energy, tables_at, columns_at, c, scale, p)
 }
 
-// A row of data and plan that passed refusals 1 to 5.
+// A row of data and plan that passed refusals 1 to 3, 16 and 5.
 pub fn row_figures(data: &[u32], scale: u32, plan: &[u32], p: Place) -> RowFigures
     requires { ⌜ (dataFault (now «data») ≡ fine) × ((length (now plan) ≡ count (columnBoxes (read (now «data») .counts))) × Member (rowBoxes (read (now «data») .counts)) (indexOf p)) ⌝ }
     ensures { λ r. ⌜ r ≡ rowFigures (read (now («data» .entry))) scale (entries (read (now («data» .entry))) (now (plan .entry))) (indexOf p) ⌝ }
@@ -124,7 +128,7 @@ fn priced_at(data: &[u32], ms: &[i64], tables_at: &Starts, rows_at: &RowStarts, 
     told_pair(sums, capped::scale(unit, hours))
 }
 
-// A column of data that passed refusals 1 to 3, with a multiplier for each row. Of an underpriced column `short` is how far it is.
+// A column of data that passed refusals 1 to 3 and 16, with a multiplier for each row. Of an underpriced column `short` is how far it is.
 pub fn column_figures(data: &[u32], multipliers: &[i64], p: Place) -> ColumnFigures
     requires { ⌜ (dataFault (now «data») ≡ fine) × ((length (now multipliers) ≡ count (rowBoxes (read (now «data») .counts))) × Member (columnBoxes (read (now «data») .counts)) (indexOf p)) ⌝ }
     ensures { λ r. ⌜ (r ≡ columnFigures (read (now («data» .entry))) (now (multipliers .entry)) (indexOf p))

@@ -17,7 +17,7 @@ ghost use Rattle.index_words.specs.Indices.{sliceWords, indexWords, lett
 const SET_LETTERS: [u8; 56] = *b"yzs/yzws/yz/ygs/ygq/yg/g/yzf//y/s/md/gq/gs/z/yzwq/yzw/yf";
 
 // Words, and an index counted from 0 as one counted from 1.
-fn say_counted(line: &mut [u8; ROOM], at: usize, words: &[u8], index: usize) -> usize
+pub fn say_counted(line: &mut [u8; ROOM], at: usize, words: &[u8], index: usize) -> usize
     requires { ⌜ Started (now line) at × (index ≤ 1000) ⌝ }
     ensures { λ r. ⌜ Said (now (line .entry)) at (now (words .entry) ++ decimal (index + 1)) r (now (line .exit)) ⌝ }
 {

@@ -9,5 +9,6 @@ pub mod Numbers
 pub mod Peak
 pub mod Sound
 pub mod Demand
+pub mod Batteries
 pub mod Rivals
 pub mod Sharp

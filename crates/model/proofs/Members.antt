@@ -5,7 +5,7 @@ use native.Mathlib.Nat.{mul-le-mul-right, mul-assoc, suc-mul}
 use native.Mathlib.Omega.{arith}
 use Rattle.sums.specs.Index.{Index, index, Member}
 use Rattle.model.specs.Data.{Data, Z, G, Q, Y, S, P}
-use Rattle.model.specs.Columns.{columnBoxes, cap, build, retire, gen, reserve, trans, unmet, surplus, spinshort, firmshort}
+use Rattle.model.specs.Columns.{columnBoxes, cap, build, retire, gen, reserve, trans, unmet, surplus, spinshort, firmshort, charge, level}
 use Rattle.model.specs.Families.{sliceOf}
 
 module _ (D : Data) where
@@ -51,6 +51,14 @@ module _ (D : Data) where
   pub in-firmshort : {y z : ℕ} → y < Y D → z < Z D → Column (firmshort y z)
   unfolding columnBoxes
   in-firmshort hy hz = (omega arith, hy, hz, omega arith, omega arith)
+
+  pub in-charge : {y g s : ℕ} → y < Y D → g < G D → s < S D → Column (charge y g s)
+  unfolding columnBoxes
+  in-charge hy hg hs = (omega arith, hy, hg, omega arith, hs)
+
+  pub in-level : {y g s : ℕ} → y < Y D → g < G D → s < S D → Column (level y g s)
+  unfolding columnBoxes
+  in-level hy hg hs = (omega arith, hy, hg, omega arith, hs)
 
   -- a season's slices are slices of the year
   pub in-year : (q i : ℕ) → q < Q D → i < P D → sliceOf D q i < S D

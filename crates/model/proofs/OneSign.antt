@@ -27,7 +27,7 @@ module _ (D : Data) where
   each-separate : (y i j s : ℕ) → Alls Separate (equations D y i j s)
   unfolding equation
   each-separate y i j s =
-      omega (arith, other-zone)  -- 1: trans into the zone and out of it, from and to other zones
+      ((omega arith, omega (arith, other-zone)), omega arith)  -- 1: trans into the zone and out of it, from and to other zones
       and omega arith
       and omega arith
       and omega arith
@@ -46,6 +46,11 @@ module _ (D : Data) where
       and omega arith
       and omega arith
       and omega arith
+      and omega arith
+      and omega (arith, ltb-true, mod-le s (T D))  -- 21: level at s and at s − 1
+      and omega arith
+      and omega (arith, ltb-true, mod-le s (T D))  -- 23: charge at s and at s − 1
+      and omega (arith, ltb-true, mod-le s (T D))  -- 24: charge at s and at s − 1
       and omega arith
       and tt
 

@@ -1,4 +1,4 @@
--- The rows are those that document 01 prints.
+-- The rows are those that documents 01 and 02 print.
 use mathlib.Core.Path.{_≡_, refl}
 use Prim.Native.Nat.{ℕ, _<_}
 use native.Mathlib.Omega.{arith}
@@ -48,4 +48,9 @@ module _ (D : Data) (x : Index → ℕ) where
     family18 = reads (row 18 0 0 0 0) (omega arith, omega arith, omega arith, omega arith, omega arith);
     family19 = λ y z hy hz. reads (row 19 y z 0 0) (omega arith, hy, hz, omega arith, omega arith);
     family20 = λ y hy. reads (row 20 y 0 0 0) (omega arith, hy, omega arith, omega arith, omega arith);
+    family21 = λ y g s hy hg hs. simp on-zero at (reads (row 21 y g 0 s) (omega arith, hy, hg, omega arith, hs));
+    family22 = λ y g s hy hg hs. reads (row 22 y g 0 s) (omega arith, hy, hg, omega arith, hs);
+    family23 = λ y g s hy hg hs. simp on-zero at (reads (row 23 y g 0 s) (omega arith, hy, hg, omega arith, hs));
+    family24 = λ y g s hy hg hs. simp on-zero at (reads (row 24 y g 0 s) (omega arith, hy, hg, omega arith, hs));
+    family25 = λ y g s hy hg hs. reads (row 25 y g 0 s) (omega arith, hy, hg, omega arith, hs);
   }

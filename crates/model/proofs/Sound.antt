@@ -30,6 +30,17 @@ unfolding unless
 passed true r e = refl
 passed false r e = fault-fine e
 
+-- one that gave a refusal failed, and the refusal is its own
+pub failed : (b : Bool) (q : Refusal) {r : Refusal} → unless b q ≡ fault r → b ≡ false
+unfolding unless
+failed true q e = fault-fine (sym e)
+failed false q e = refl
+
+pub own-refusal : (b : Bool) (q : Refusal) {r : Refusal} → unless b q ≡ fault r → q ≡ r
+unfolding unless
+own-refusal true q e = fault-fine (sym e)
+own-refusal false q e = cc
+
 pub both : (a b : Bool) → (a && b) ≡ true → (a ≡ true) × (b ≡ true)
 both true b e = (refl, e)
 both false b e = let z : _≡_ {A = ℕ} 0 1 = cc in absurd (omega arith)
@@ -67,8 +78,9 @@ pub sound-places : SoundPlaces
 unfolding dataFault read
 sound-places l e =
     let a = orElse-fine _ _ (orElse-fine _ _ e .1) in
+    let tests = orElse-fine _ _ (orElse-fine _ _ (a .1) .1) in
     let counts = count-range l (a .0) in
-    placed (read l) (orElse-fine _ _ (a .1) .1) (counts 0 (omega arith) .0) (counts 2 (omega arith) .0)
+    placed (read l) (search (tests)) (counts 0 (omega arith) .0) (counts 2 (omega arith) .0)
 
 -- of two differences cut off at zero one is 0
 one-side : (a b : ℕ) → (a - b) * (b - a) ≡ 0

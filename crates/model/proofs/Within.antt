@@ -9,7 +9,7 @@ use Rattle.sums.proofs.Lists.{Alls, at-place, _and_}
 use Rattle.model.specs.Data.{Data, Z, G, Q, Y, S, P}
 use Rattle.model.specs.Columns.{columnBoxes}
 use Rattle.model.specs.Families.{Equation, empty, equation, equations, rowBoxes, sliceOf}
-use Rattle.model.proofs.Members.{Column, in-cap, in-build, in-retire, in-gen, in-reserve, in-trans, in-unmet, in-surplus, in-spinshort, in-firmshort, in-year}
+use Rattle.model.proofs.Members.{Column, in-cap, in-build, in-retire, in-gen, in-reserve, in-trans, in-unmet, in-surplus, in-spinshort, in-firmshort, in-charge, in-level, in-year}
 
 module _ (D : Data) where
   abbrev pub Inside : Equation → Type 0
@@ -24,7 +24,7 @@ module _ (D : Data) where
   each-inside : (y i j s : ℕ) → Alls (Bounded y i j s) (equations D y i j s)
   unfolding equation rowBoxes
   each-inside y i j s =
-      (λ hy hz _ hs. (((λ g hg _. in-gen D hy hg hs, λ u hu _. in-trans D hy hu hz hs), in-unmet D hy hz hs), (λ u hu _. in-trans D hy hz hu hs, in-surplus D hy hz hs)))
+      (λ hy hz _ hs. (((λ g hg _. in-gen D hy hg hs, λ u hu _. in-trans D hy hu hz hs), in-unmet D hy hz hs), ((λ g hg _. in-charge D hy hg hs, λ u hu _. in-trans D hy hz hu hs), in-surplus D hy hz hs)))
       and (λ hy hz hw hs. (tt, in-trans D hy hz hw hs))
       and (λ hy hz _ hs. ((λ g hg _. in-reserve D hy hg hs, in-spinshort D hy hz hs), (λ u hu _. in-trans D hy hu hz hs, λ g hg _ _. in-gen D hy hg hs)))
       and (λ hy hz _ _. ((λ g hg _. in-cap D hy hg, in-firmshort D hy hz), tt))
@@ -44,6 +44,11 @@ module _ (D : Data) where
       and (λ _ _ _ _. (tt, λ a ha g hg _. in-cap D ha hg))
       and (λ hy _ _ _. (tt, λ g hg _ p hp. in-gen D hy hg hp))
       and (λ hy _ _ _. (tt, λ g hg p hp. in-gen D hy hg hp))
+      and (λ hy hg _ hs. (λ _. (in-level D hy hg hs, in-gen D hy hg hs), λ _. (λ _. in-level D hy hg (omega arith), in-charge D hy hg hs)))
+      and (λ hy hg _ hs. (λ _. in-cap D hy hg, in-charge D hy hg hs))
+      and (λ hy hg _ hs. (λ _ _. (in-cap D hy hg, in-charge D hy hg (omega arith)), λ _ _. in-charge D hy hg hs))
+      and (λ hy hg _ hs. (λ _ _. (in-cap D hy hg, in-charge D hy hg hs), λ _ _. in-charge D hy hg (omega arith)))
+      and (λ hy hg _ hs. (tt, in-level D hy hg hs))
       and tt
 
   pub inside : (r : Index) → Member (rowBoxes (D .counts)) r → Inside (equation D r)

@@ -6,7 +6,7 @@ use lib.IntN.{ℤ}
 use lib.ListN.{length, take, drop}
 use Rattle.sums.specs.Span.{Fault, fine, fault, orElse}
 use Rattle.model.specs.declared.Refusal.{Refusal}
-use Rattle.model.specs.declared.Refusal.the-variants.{Shape, DataLength, Entry, Scale, PlanLength, RowOffScale, Broken, CostOffScale, MultiplierCount, Multiplier, ColumnOffScale, Underpriced, GapOffScale, Board, Frame}
+use Rattle.model.specs.declared.Refusal.the-variants.{Shape, DataLength, Entry, Scale, PlanLength, RowOffScale, Broken, CostOffScale, MultiplierCount, Multiplier, ColumnOffScale, Underpriced, GapOffScale, Board, Frame, Storage}
 use Rattle.model.specs.declared.Code.{Code}
 use Rattle.model.specs.declared.Answer.{Answer}
 use Rattle.model.specs.declared.Answer.the-variants.{Accepted, Refused}
@@ -20,7 +20,7 @@ use Rattle.model.specs.Tests.{dataFault, planFault, dualFault, gap, boar
 abbrev pub code : ℕ → ℕ → ℕ → Code
 code n a b = record { number = n; first = a; second = b }
 
--- document 01's number and place of each refusal
+-- the number and place of each refusal, in documents 01 and 02
 unfoldable pub codeOf : Refusal → Code
 codeOf (Shape i) = code 1 i 0
 codeOf (DataLength n) = code 2 n 0
@@ -37,6 +37,7 @@ codeOf (Underpriced c) = code 12 c 0
 codeOf GapOffScale = code 13 0 0
 codeOf Board = code 14 0 0
 codeOf (Frame n) = code 15 n 0
+codeOf (Storage g) = code 16 g 0
 
 -- an answer of check or post: 0 and the cost, or the refusal
 unfoldable pub answerCode : Answer → Code

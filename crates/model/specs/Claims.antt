@@ -1,25 +1,27 @@
 -- What is proved of the definitions, as statements; the proofs are in proofs/.
--- Beside these: Printed.antt (each family reads as document 01 prints it) and Standing.antt (the rows of each kind of column).
+-- Beside these: Printed.antt (each family reads as documents 01 and 02 print it) and Standing.antt (the rows of each kind of column).
 use mathlib.Core.Path.{_≡_}
+use mathlib.Core.Bool.{false, true, _&&_}
 use mathlib.Core.List.{List, map}
 use Prim.Native.Nat.{ℕ, _+_, _*_, _≤_, _<_}
 use lib.IntN.{ℤ, pos, _-ℤ_, _*ℤ_}
 use lib.Signed.{_≤ℤ_}
 use Rattle.sums.specs.Sum.{sum}
-use Rattle.sums.specs.Span.{listing, upFrom, fine}
+use Rattle.sums.specs.Span.{listing, upFrom, fine, fault}
 use Rattle.sums.specs.declared.Box.{Box}
 use Rattle.sums.specs.Index.{Index, members, Member, number, count}
 use Rattle.sums.specs.Linear.{coefficient}
 use Rattle.model.specs.declared.Refusal.{Refusal}
-use Rattle.model.specs.declared.Answer.the-variants.{Refused}
+use Rattle.model.specs.declared.Refusal.the-variants.{Storage}
+use Rattle.model.specs.declared.Answer.the-variants.{Accepted, Refused}
 use Rattle.model.specs.declared.Certificate.the-variants.{Issued}
 use Rattle.model.specs.Counts.{Counts}
-use Rattle.model.specs.Data.{Data, read, tableBoxes, demand, peak, Z, G, Y, S}
-use Rattle.model.specs.Columns.{columnBoxes, columnNumber, cap, build, retire, gen, reserve, trans, unmet, surplus, spinshort, firmshort}
+use Rattle.model.specs.Data.{Data, read, tableBoxes, demand, peak, isBattery, isVre, efficiency, hour, Z, G, Y, S}
+use Rattle.model.specs.Columns.{columnBoxes, columnNumber, entries, cap, build, retire, gen, reserve, trans, unmet, surplus, spinshort, firmshort, charge, level}
 use Rattle.model.specs.Families.{rowBoxes, equation}
-use Rattle.model.specs.Tests.{dataFault, constant⁺, constant⁻, constants⁺, constants⁻}
+use Rattle.model.specs.Tests.{headFault, countsFault, lengthFault, entriesFault, dataFault, constant⁺, constant⁻, constants⁺, constants⁻}
 use Rattle.model.specs.Prices.{cost}
-use Rattle.model.specs.Calls.{certify, costOf, post, posted}
+use Rattle.model.specs.Calls.{check, certify, costOf, post, posted}
 use Rattle.model.specs.Rival.{Rival, Bounds, Binds, RivalPlan, Cheaper}
 use Rattle.model.specs.Station.{Case, run, cases, firstCase, station, planOf, multipliersOf}
 use Rattle.model.specs.Standing.{Placed}
@@ -121,6 +123,59 @@ pub record ColumnNumbers (D : Data) : Type 0 where
       ≡ 3 * (Y D * G D) + 2 * (Y D * G D * S D) + Y D * Z D * Z D * S D + 2 * (Y D * Z D * S D) + ((y * Z D + z) * S D + s)
   pub ofFirmshort : (y z : ℕ) → columnNumber D (firmshort y z)
       ≡ 3 * (Y D * G D) + 2 * (Y D * G D * S D) + Y D * Z D * Z D * S D + 3 * (Y D * Z D * S D) + (y * Z D + z)
+  pub ofCharge : (y g s : ℕ) → columnNumber D (charge y g s)
+      ≡ 3 * (Y D * G D) + 2 * (Y D * G D * S D) + Y D * Z D * Z D * S D + 3 * (Y D * Z D * S D) + Y D * Z D + ((y * G D + g) * S D + s)
+  pub ofLevel : (y g s : ℕ) → columnNumber D (level y g s)
+      ≡ 3 * (Y D * G D) + 3 * (Y D * G D * S D) + Y D * Z D * Z D * S D + 3 * (Y D * Z D * S D) + Y D * Z D + ((y * G D + g) * S D + s)
+
+-- Batteries, request (i)
+
+-- what refusal 16 at plant g says: all of refusal 3 passed, g is a battery and has VRE set, and no plant below it is such
+pub record VreBattery (D : Data) (g : ℕ) : Type 0 where
+  pub inRange : entriesFault D ≡ fine
+  pub plant : g < G D
+  pub battery : isBattery D g ≡ true
+  pub vre : isVre D g ≡ true
+  pub lowest : (h : ℕ) → h < g → (isBattery D h && isVre D h) ≡ false
+
+-- where the data are refused with 16, this is so
+abbrev pub StorageRefused : Type 0
+StorageRefused = (l : List ℕ) (g : ℕ) → dataFault l ≡ fault (Storage g) → VreBattery (read l) g
+
+-- and where it is so, and refusals 1 and 2 pass, the data are refused with 16 at that plant
+abbrev pub StorageGiven : Type 0
+StorageGiven =
+    (l : List ℕ) (g : ℕ) → headFault l ≡ fine → countsFault l ≡ fine → lengthFault l ≡ fine → VreBattery (read l) g → dataFault l ≡ fault (Storage g)
+
+-- a plant of that year and slice neither charges nor holds energy
+pub record Uncharged (x : Index → ℕ) (y g s : ℕ) : Type 0 where
+  pub noCharge : x (charge y g s) ≡ 0
+  pub noLevel : x (level y g s) ≡ 0
+
+-- a plant that is no battery has charge and level 0 in every plan that meets the rows: a rival is any such plan, at any scale
+abbrev pub NoBattery : Type 0
+NoBattery =
+    (D : Data) (M : ℕ) (x : Index → ℕ) → Rival D M x → (y g s : ℕ) → y < Y D → g < G D → s < S D
+    → isBattery D g ≡ false → Uncharged x y g s
+
+-- and in every plan that check accepts
+abbrev pub NoBatteryAccepted : Type 0
+NoBatteryAccepted =
+    (l : List ℕ) (N : ℕ) (plan : List ℕ) (c : ℕ) → check l N plan ≡ Accepted c
+    → (y g s : ℕ) → y < Y (read l) → g < G (read l) → s < S (read l) → isBattery (read l) g ≡ false → Uncharged (entries (read l) plan) y g s
+
+-- a battery starts each day empty: what it holds after a day's first hour is efficiency ‰ of what that hour charged, less what it gave
+abbrev pub EmptyAtMidnight : Type 0
+EmptyAtMidnight =
+    (D : Data) (M : ℕ) (x : Index → ℕ) → Rival D M x → (y g s : ℕ) → y < Y D → g < G D → s < S D
+    → hour D s ≡ 0 → isBattery D g ≡ true → x (level y g s) + 1000 * x (gen y g s) ≡ efficiency D g * x (charge y g s)
+
+-- so the level of a day's first hour does not depend on the day before: two plans with the same charge and output in that hour have the same level there
+-- (a plan in Mths and one in Lths have the same amount where L times the one's entry is M times the other's)
+abbrev pub DaysApart : Type 0
+DaysApart =
+    (D : Data) (M L : ℕ) (x w : Index → ℕ) → Rival D M x → Rival D L w → (y g s : ℕ) → y < Y D → g < G D → s < S D
+    → hour D s ≡ 0 → L * x (charge y g s) ≡ M * w (charge y g s) → L * x (gen y g s) ≡ M * w (gen y g s) → L * x (level y g s) ≡ M * w (level y g s)
 
 -- the peak is the largest Demand of the year and zone: none is above it, and it is one of them
 pub record IsPeak (D : Data) (y z : ℕ) : Type 0 where

@@ -1,4 +1,4 @@
--- The plan's columns: cap, build, retire [y,g]; gen, reserve [y,g,s]; trans [y,z,z2,s]; unmet, surplus, spinshort [y,z,s]; firmshort [y,z].
+-- The plan's columns: cap, build, retire [y,g]; gen, reserve [y,g,s]; trans [y,z,z2,s]; unmet, surplus, spinshort [y,z,s]; firmshort [y,z]; charge, level [y,g,s].
 use mathlib.Core.List.{List, [], _∷_, map}
 use Prim.Native.Nat.{ℕ}
 use lib.ListN.{getD}
@@ -10,11 +10,11 @@ use Rattle.model.specs.Data.{Data}
 
 -- the code of each table's index set, in order
 abbrev pub columnSets : List ℕ
-columnSets = [yg] ∷ [yg] ∷ [yg] ∷ [ygs] ∷ [ygs] ∷ [yzzs] ∷ [yzs] ∷ [yzs] ∷ [yzs] ∷ [yz] ∷ []
+columnSets = [yg] ∷ [yg] ∷ [yg] ∷ [ygs] ∷ [ygs] ∷ [yzzs] ∷ [yzs] ∷ [yzs] ∷ [yzs] ∷ [yz] ∷ [ygs] ∷ [ygs] ∷ []
 
 -- how many kinds of column there are
 abbrev pub columnKindCount : ℕ
-columnKindCount = 10
+columnKindCount = 12
 
 -- each table's columns by name
 abbrev pub cap : ℕ → ℕ → Index
@@ -37,6 +37,10 @@ abbrev pub spinshort : ℕ → ℕ → ℕ → Index
 spinshort y z s = index 8 y z 0 s
 abbrev pub firmshort : ℕ → ℕ → Index
 firmshort y z = index 9 y z 0 0
+abbrev pub charge : ℕ → ℕ → ℕ → Index        -- Nths of a MW
+charge y g s = index 10 y g 0 s
+abbrev pub level : ℕ → ℕ → ℕ → Index         -- Nths of a kWh, at the slice's end
+level y g s = index 11 y g 0 s
 
 unfoldable pub columnBoxes : Counts → List Box
 columnBoxes c = map (λ k. boxOf (sets c) k) columnSets

@@ -1,4 +1,4 @@
--- The data list of document 01: its tables in order, the range of every entry, and each table by its name.
+-- The data list of documents 01 and 02: its tables in order, the range of every entry, and each table by its name.
 use mathlib.Core.Bool.{Bool, true, false, not, _&&_}
 use mathlib.Core.List.{List, [], _∷_, map}
 use Prim.Native.Nat.{ℕ, _+_, _*_, _-_, _/_, _%_}
@@ -139,6 +139,12 @@ module _ (D : Data) where
   err = D .entry 40 0 0 0 0
   abbrev pub maxCapital : ℕ
   maxCapital = D .entry 41 0 0 0 0
+  abbrev pub battery : ℕ → ℕ                  -- 1 battery
+  battery g = D .entry 42 0 g 0 0
+  abbrev pub efficiency : ℕ → ℕ               -- of charging
+  efficiency g = D .entry 43 0 g 0 0
+  abbrev pub energyCapacity : ℕ → ℕ
+  energyCapacity g = D .entry 44 0 g 0 0
 
   -- what follows from them
   abbrev pub existing : ℕ → Bool
@@ -153,6 +159,8 @@ module _ (D : Data) where
   hour s = s % T
   abbrev pub isVre : ℕ → Bool
   isVre g = eqb (vre g) 1
+  abbrev pub isBattery : ℕ → Bool
+  isBattery g = eqb (battery g) 1
   abbrev pub afterFirstHour : ℕ → Bool        -- t > 0
   afterFirstHour s = ltb 0 (hour s)
   abbrev pub onMinLoadDay : ℕ → Bool
@@ -218,11 +226,14 @@ tables =
     ∷ all [one] (0 to most32)                                               -- 39 SRESVoLL, mills per kWh
     ∷ all [one] (0 to 1000)                                                 -- 40 Err, ‰
     ∷ all [one] (0 to most32)                                               -- 41 MaxCapital, thousands of money units
+    ∷ all [g] (0 to 1)                                                      -- 42 battery
+    ∷ all [g] (0 to 1000)                                                   -- 43 efficiency, ‰
+    ∷ all [g] (0 to most32)                                                 -- 44 energy capacity, kWh
     ∷ []
 
 -- how many tables there are
 abbrev pub tableCount : ℕ
-tableCount = 42
+tableCount = 45
 
 unfoldable pub tableBoxes : Counts → List Box
 tableBoxes c = map (λ t. boxOf (sets c) (t .set)) tables

@@ -13,8 +13,8 @@ use Rattle.sums.specs.Linear.{Linear, nothing, _·_, ∑, _⊕_, when}
 use Rattle.model.specs.declared.Family.{Family}
 use Rattle.model.specs.declared.Shape.{Shape}
 use Rattle.model.specs.Counts.{Counts, sets, [yzs], [yzzs], [yz], [ygs], [ygq], [yg], [g], [yzf], [one], [y]}
-use Rattle.model.specs.Data.{Data, rate, weight, duration, zone, fuel, genCap, year, maxNewCap, overLoad, resOffer, rampDn, rampUp, minCapFac, capCredit, heatRate, emission, availability, profile, annuity, demand, ee, sRes, prm, tl, loss, zoneCap, systemCap, maxFuel, buildLimit, err, maxCapital, Z, G, Q, Y, S, P, existing, candidate, season, afterFirstHour, onMinLoadDay, isVre, peak}
-use Rattle.model.specs.Columns.{cap, build, retire, gen, reserve, trans, unmet, surplus, spinshort, firmshort}
+use Rattle.model.specs.Data.{Data, rate, weight, duration, zone, fuel, genCap, year, maxNewCap, overLoad, resOffer, rampDn, rampUp, minCapFac, capCredit, heatRate, emission, availability, profile, annuity, demand, ee, sRes, prm, tl, loss, zoneCap, systemCap, maxFuel, buildLimit, err, maxCapital, Z, G, Q, Y, S, P, existing, candidate, season, afterFirstHour, onMinLoadDay, isVre, isBattery, efficiency, energyCapacity, peak}
+use Rattle.model.specs.Columns.{cap, build, retire, gen, reserve, trans, unmet, surplus, spinshort, firmshort, charge, level}
 
 abbrev pub family : ℕ → ℕ → Bool → Family
 family n k e = record { equation = n; set = k; equal = e }
@@ -42,11 +42,16 @@ families =
     ∷ family 64 [one] false       -- 18
     ∷ family 66 [yz] false        -- 19
     ∷ family 68 [y] false         -- 20
+    ∷ family 43 [ygs] true        -- 21, with (42) in a day's first slice
+    ∷ family 45 [ygs] false       -- 22
+    ∷ family 47 [ygs] false       -- 23
+    ∷ family 48 [ygs] false       -- 24
+    ∷ family 46 [ygs] false       -- 25
     ∷ []
 
 -- how many families there are
 abbrev pub familyCount : ℕ
-familyCount = 20
+familyCount = 25
 
 unfoldable pub familyOf : ℕ → Family
 familyOf k = getD families k (family 0 0 false)
@@ -113,12 +118,16 @@ module _ (D : Data) where
   abbrev pub seasonSum : ℕ → (ℕ → ℕ) → ℕ
   seasonSum q f = sum (P D) (λ i. f (sliceOf q i))
 
-  -- 1 (14): 1000·Σ gen in z − 1000·Σ trans[z,z2] + Σ (1000 − Loss[z2,z])·trans[z2,z] + unmet − surplus = Demand·EE
+  -- a ramp over the hour before, t > 0: 1000·(high − low) ≤ allowed; of high and low one is the slice's own column, the other that of the slice before
+  abbrev pub ramp : ℕ → Linear → Index → Index → Equation
+  ramp s allowed high low = only (afterFirstHour D s) (record { positive = allowed ⊕ 1000 · low; negative = 1000 · high; plus = 0; minus = 0 })
+
+  -- 1 (14): 1000·Σ gen in z − 1000·Σ charge in z − 1000·Σ trans[z,z2] + Σ (1000 − Loss[z2,z])·trans[z2,z] + unmet − surplus = Demand·EE
   -- (a difference here is cut off at 0; Loss is at most 1000, as refusal 3 has it)
   unfoldable pub balance : ℕ → ℕ → ℕ → Equation
   balance y z s = record {
     positive = inZone z (λ g. 1000 · gen y g s) ⊕ others z (λ u. (1000 - loss D y u z) · trans y u z s) ⊕ 1 · unmet y z s;
-    negative = others z (λ u. 1000 · trans y z u s) ⊕ 1 · surplus y z s;
+    negative = inZone z (λ g. 1000 · charge y g s) ⊕ others z (λ u. 1000 · trans y z u s) ⊕ 1 · surplus y z s;
     plus = 0;
     minus = demand D y z s * ee D y z;
   }
@@ -160,21 +169,11 @@ module _ (D : Data) where
 
   -- 7 (24), t > 0: 1000·(gen[s−1] − gen[s]) ≤ RampDn·cap
   unfoldable pub rampDown : ℕ → ℕ → ℕ → Equation
-  rampDown y g s = only (afterFirstHour D s) (record {
-    positive = rampDn D g · cap y g ⊕ 1000 · gen y g s;
-    negative = 1000 · gen y g (s - 1);
-    plus = 0;
-    minus = 0;
-  })
+  rampDown y g s = ramp s (rampDn D g · cap y g) (gen y g (s - 1)) (gen y g s)
 
   -- 8 (25), t > 0: 1000·(gen[s] − gen[s−1]) ≤ RampUp·cap
   unfoldable pub rampUpward : ℕ → ℕ → ℕ → Equation
-  rampUpward y g s = only (afterFirstHour D s) (record {
-    positive = rampUp D g · cap y g ⊕ 1000 · gen y g (s - 1);
-    negative = 1000 · gen y g s;
-    plus = 0;
-    minus = 0;
-  })
+  rampUpward y g s = ramp s (rampUp D g · cap y g) (gen y g s) (gen y g (s - 1))
 
   -- 9 (26), minimum-load days: 1000·gen ≥ MinCapFac·cap
   unfoldable pub minimumLoad : ℕ → ℕ → ℕ → Equation
@@ -267,6 +266,31 @@ module _ (D : Data) where
     minus = 0;
   }
 
+  -- 21 (42, 43), battery: level = level[s−1] (0 before a day's first slice) + Efficiency·charge − 1000·gen; a slice counts as one hour
+  unfoldable pub batteryLevel : ℕ → ℕ → ℕ → Equation
+  batteryLevel y g s = only (isBattery D g) (record {
+    positive = 1 · level y g s ⊕ 1000 · gen y g s;
+    negative = when (afterFirstHour D s) (1 · level y g (s - 1)) ⊕ efficiency D g · charge y g s;
+    plus = 0;
+    minus = 0;
+  })
+
+  -- 22 (45): battery: charge ≤ cap; any other plant: charge ≤ 0
+  unfoldable pub chargeLimit : ℕ → ℕ → ℕ → Equation
+  chargeLimit y g s = record { positive = when (isBattery D g) (1 · cap y g); negative = 1 · charge y g s; plus = 0; minus = 0 }
+
+  -- 23 (47), battery, t > 0: 1000·(charge[s] − charge[s−1]) ≤ RampDn·cap
+  unfoldable pub chargeRise : ℕ → ℕ → ℕ → Equation
+  chargeRise y g s = only (isBattery D g) (ramp s (rampDn D g · cap y g) (charge y g s) (charge y g (s - 1)))
+
+  -- 24 (48), battery, t > 0: 1000·(charge[s−1] − charge[s]) ≤ RampUp·cap
+  unfoldable pub chargeFall : ℕ → ℕ → ℕ → Equation
+  chargeFall y g s = only (isBattery D g) (ramp s (rampUp D g · cap y g) (charge y g (s - 1)) (charge y g s))
+
+  -- 25 (46): battery: level ≤ energy capacity; any other plant: level ≤ 0
+  unfoldable pub levelLimit : ℕ → ℕ → ℕ → Equation
+  levelLimit y g s = record { positive = nothing; negative = 1 · level y g s; plus = on (isBattery D g) (energyCapacity D g); minus = 0 }
+
   -- the row of each family at a year, a first and a second index and a slice
   abbrev pub equations : ℕ → ℕ → ℕ → ℕ → List Equation
   equations y i j s =
@@ -290,9 +314,14 @@ module _ (D : Data) where
       ∷ capital
       ∷ zoneEmission y i
       ∷ systemEmission y
+      ∷ batteryLevel y i s
+      ∷ chargeLimit y i s
+      ∷ chargeRise y i s
+      ∷ chargeFall y i s
+      ∷ levelLimit y i s
       ∷ []
 
   -- opened with every family, so that a proof names one definition
   unfoldable pub equation : Index → Equation
-  unfolding balance transfer spinning firm loading offer rampDown rampUpward minimumLoad available profiled stock life fixed newCapacity yearlyBuild fuelUse capital zoneEmission systemEmission
+  unfolding balance transfer spinning firm loading offer rampDown rampUpward minimumLoad available profiled stock life fixed newCapacity yearlyBuild fuelUse capital zoneEmission systemEmission batteryLevel chargeLimit chargeRise chargeFall levelLimit
   equation (index k y i j s) = getD (equations y i j s) k empty

@@ -26,6 +26,8 @@ module _ (D : Data) where
       ∷ yearWeight y * duration D s * surplusPenalty D                                        -- surplus
       ∷ yearWeight y * duration D s * sresVoLL D                                              -- spinshort
       ∷ yearWeight y * resVoLL D                                                              -- firmshort
+      ∷ 0                                                                                     -- charge
+      ∷ 0                                                                                     -- level
       ∷ []
 
   unfoldable pub price : Index → ℕ

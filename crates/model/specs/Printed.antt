@@ -1,4 +1,4 @@
--- The families once more, as document 01 prints them: each row's two sums over all columns, and its constant.
+-- The families once more, as documents 01 and 02 print them: each row's two sums over all columns, and its constant.
 -- Beside Families.antt, which the tests run on, this page is what a reader ticks off against the document; proofs/Printed.antt shows that they agree.
 use mathlib.Core.Path.{_≡_}
 use mathlib.Core.Bool.{Bool, true, false, not, _&&_, _||_}
@@ -8,8 +8,8 @@ use Rattle.sums.specs.Sum.{sum, largest, on}
 use Rattle.sums.specs.Span.{total}
 use Rattle.sums.specs.Index.{Index}
 use Rattle.sums.specs.Linear.{coefficient}
-use Rattle.model.specs.Data.{Data, rate, weight, duration, minLoad, zone, fuel, vre, genCap, year, maxNewCap, overLoad, resOffer, rampDn, rampUp, minCapFac, capCredit, heatRate, emission, availability, profile, annuity, demand, ee, sRes, prm, tl, loss, zoneCap, systemCap, maxFuel, buildLimit, err, maxCapital, Z, G, F, Q, Y, S, P, T, existing, candidate, season, day}
-use Rattle.model.specs.Columns.{columns, cap, build, retire, gen, reserve, trans, unmet, surplus, spinshort, firmshort}
+use Rattle.model.specs.Data.{Data, rate, weight, duration, minLoad, zone, fuel, vre, genCap, year, maxNewCap, overLoad, resOffer, rampDn, rampUp, minCapFac, capCredit, heatRate, emission, availability, profile, annuity, demand, ee, sRes, prm, tl, loss, zoneCap, systemCap, maxFuel, buildLimit, err, maxCapital, Z, G, F, Q, Y, S, P, T, battery, efficiency, energyCapacity, existing, candidate, season, day}
+use Rattle.model.specs.Columns.{columns, cap, build, retire, gen, reserve, trans, unmet, surplus, spinshort, firmshort, charge, level}
 use Rattle.model.specs.Families.{row, equation, equal, familyIn, familyOf}
 
 module _ (D : Data) (x : Index → ℕ) where
@@ -35,10 +35,10 @@ module _ (D : Data) (x : Index → ℕ) where
     pub takes : equation D r .minus ≡ k⁻
 
   pub record Printed : Type 0 where
-    -- 1 (14): 1000·Σ gen in z − 1000·Σ trans[z,z2] + Σ (1000 − Loss[z2,z])·trans[z2,z] + unmet − surplus = Demand·EE
+    -- 1 (14): 1000·Σ gen in z − 1000·Σ charge in z − 1000·Σ trans[z,z2] + Σ (1000 − Loss[z2,z])·trans[z2,z] + unmet − surplus = Demand·EE
     pub family1 : (y z s : ℕ) → y < Y D → z < Z D → s < S D → Reads (row 1 y z 0 s) 14 true
         (plantsIn z (λ g. 1000 * x (gen y g s)) + zonesBut z (λ u. (1000 - loss D y u z) * x (trans y u z s)) + 1 * x (unmet y z s))
-        (zonesBut z (λ u. 1000 * x (trans y z u s)) + 1 * x (surplus y z s))
+        (plantsIn z (λ g. 1000 * x (charge y g s)) + zonesBut z (λ u. 1000 * x (trans y z u s)) + 1 * x (surplus y z s))
         0 (demand D y z s * ee D y z)
     -- 2 (15): trans ≤ TL
     pub family2 : (y z w s : ℕ) → y < Y D → z < Z D → w < Z D → s < S D → Reads (row 2 y z w s) 15 false
@@ -103,3 +103,21 @@ module _ (D : Data) (x : Index → ℕ) where
     -- 20 (68): Σ Dur·E·gen ≤ 1000·system cap
     pub family20 : (y : ℕ) → y < Y D → Reads (row 20 y 0 0 0) 68 false
         0 (sum (G D) (λ g. sum (S D) (λ s. duration D s * emission D g * x (gen y g s)))) (1000 * systemCap D y) 0
+    -- 21 (42, 43), battery: level = level[s−1] (0 before a day's first slice) + Efficiency·charge − 1000·gen
+    pub family21 : (y g s : ℕ) → y < Y D → g < G D → s < S D → Reads (row 21 y g 0 s) 43 true
+        (on (eqb (battery D g) 1) (1 * x (level y g s) + 1000 * x (gen y g s)))
+        (on (eqb (battery D g) 1) (on (ltb 0 (s % T D)) (1 * x (level y g (s - 1))) + efficiency D g * x (charge y g s))) 0 0
+    -- 22 (45): battery: charge ≤ cap; any other plant: charge ≤ 0
+    pub family22 : (y g s : ℕ) → y < Y D → g < G D → s < S D → Reads (row 22 y g 0 s) 45 false
+        (on (eqb (battery D g) 1) (1 * x (cap y g))) (1 * x (charge y g s)) 0 0
+    -- 23 (47), battery, t > 0: 1000·(charge[s] − charge[s−1]) ≤ RampDn·cap
+    pub family23 : (y g s : ℕ) → y < Y D → g < G D → s < S D → Reads (row 23 y g 0 s) 47 false
+        (on (eqb (battery D g) 1) (on (ltb 0 (s % T D)) (rampDn D g * x (cap y g) + 1000 * x (charge y g (s - 1)))))
+        (on (eqb (battery D g) 1) (on (ltb 0 (s % T D)) (1000 * x (charge y g s)))) 0 0
+    -- 24 (48), battery, t > 0: 1000·(charge[s−1] − charge[s]) ≤ RampUp·cap
+    pub family24 : (y g s : ℕ) → y < Y D → g < G D → s < S D → Reads (row 24 y g 0 s) 48 false
+        (on (eqb (battery D g) 1) (on (ltb 0 (s % T D)) (rampUp D g * x (cap y g) + 1000 * x (charge y g s))))
+        (on (eqb (battery D g) 1) (on (ltb 0 (s % T D)) (1000 * x (charge y g (s - 1))))) 0 0
+    -- 25 (46): battery: level ≤ energy capacity; any other plant: level ≤ 0
+    pub family25 : (y g s : ℕ) → y < Y D → g < G D → s < S D → Reads (row 25 y g 0 s) 46 false
+        0 (1 * x (level y g s)) (on (eqb (battery D g) 1) (energyCapacity D g)) 0

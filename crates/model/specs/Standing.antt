@@ -8,21 +8,36 @@ use lib.ListN.{getD}
 use Rattle.sums.specs.Span.{total}
 use Rattle.sums.specs.Index.{Index, index, Member}
 use Rattle.sums.specs.Linear.{Linear, nothing, _·_, ∑, _⊕_, when, value, coefficient}
-use Rattle.model.specs.Data.{Data, rate, weight, duration, zone, fuel, overLoad, resOffer, rampDn, rampUp, minCapFac, capCredit, heatRate, emission, availability, profile, annuity, loss, err, Z, G, F, Q, Y, S, existing, candidate, season, afterFirstHour, onMinLoadDay, isVre}
+use Rattle.model.specs.Data.{Data, rate, weight, duration, zone, fuel, overLoad, resOffer, rampDn, rampUp, minCapFac, capCredit, heatRate, emission, availability, profile, annuity, loss, err, Z, G, F, Q, Y, S, existing, candidate, season, afterFirstHour, onMinLoadDay, isVre, isBattery, efficiency}
 use Rattle.model.specs.Columns.{columnBoxes}
 use Rattle.model.specs.Families.{rows, row, equation, seasonSum, outOfService}
 
 module _ (D : Data) where
+  -- A plant's column of a slice in its two ramps over the hour before, families `fall` and `rise`: with one sign in the slice's own row of
+  -- the fall and in the next slice's of the rise; with the other in the slice's own row of the rise and in the next slice's of the fall.
+  abbrev pub rampsIn : ℕ → ℕ → ℕ → ℕ → ℕ → Linear
+  rampsIn fall rise y g s =
+      when (afterFirstHour D s) (1000 · row fall y g 0 s)
+      ⊕ when (afterFirstHour D (s + 1)) (1000 · row rise y g 0 (s + 1))
+
   -- positive coefficients
+  -- cap in the rows of one slice
+  unfoldable pub capInSlice⁺ : ℕ → ℕ → ℕ → Linear
+  capInSlice⁺ y g s =
+      (1000 + overLoad D g) · row 5 y g 0 s
+      ⊕ resOffer D g · row 6 y g 0 s
+      ⊕ when (afterFirstHour D s) (rampDn D g · row 7 y g 0 s)
+      ⊕ when (afterFirstHour D s) (rampUp D g · row 8 y g 0 s)
+      ⊕ when (isVre D g) (profile D g s · row 11 y g 0 s)
+      ⊕ when (isBattery D g) (1 · row 22 y g 0 s)
+      ⊕ when (isBattery D g) (when (afterFirstHour D s) (rampDn D g · row 23 y g 0 s))
+      ⊕ when (isBattery D g) (when (afterFirstHour D s) (rampUp D g · row 24 y g 0 s))
+
   unfoldable pub capIn⁺ : ℕ → ℕ → Linear
   capIn⁺ y g =
       capCredit D g · row 4 y (zone D g) 0 0
-      ⊕ ∑ (S D) (λ s. (1000 + overLoad D g) · row 5 y g 0 s)
-      ⊕ ∑ (S D) (λ s. resOffer D g · row 6 y g 0 s)
-      ⊕ ∑ (S D) (λ s. when (afterFirstHour D s) (rampDn D g · row 7 y g 0 s))
-      ⊕ ∑ (S D) (λ s. when (afterFirstHour D s) (rampUp D g · row 8 y g 0 s))
+      ⊕ ∑ (S D) (capInSlice⁺ y g)
       ⊕ ∑ (Q D) (λ q. (availability D g q * seasonSum D q (λ s. duration D s)) · row 10 y g 0 q)
-      ⊕ ∑ (S D) (λ s. when (isVre D g) (profile D g s · row 11 y g 0 s))
       ⊕ 1 · row 12 y g 0 0
 
   unfoldable pub retireIn⁺ : ℕ → ℕ → Linear
@@ -31,9 +46,9 @@ module _ (D : Data) where
   unfoldable pub genIn⁺ : ℕ → ℕ → ℕ → Linear
   genIn⁺ y g s =
       1000 · row 1 y (zone D g) 0 s
-      ⊕ when (afterFirstHour D s) (1000 · row 7 y g 0 s)
-      ⊕ when (afterFirstHour D (s + 1)) (1000 · row 8 y g 0 (s + 1))
+      ⊕ rampsIn 7 8 y g s
       ⊕ when (onMinLoadDay D s) (1000 · row 9 y g 0 s)
+      ⊕ when (isBattery D g) (1000 · row 21 y g 0 s)
 
   unfoldable pub reserveIn⁺ : ℕ → ℕ → ℕ → Linear
   reserveIn⁺ y g s = 1000 · row 3 y (zone D g) 0 s
@@ -42,10 +57,16 @@ module _ (D : Data) where
   unfoldable pub transIn⁺ : ℕ → ℕ → ℕ → ℕ → Linear
   transIn⁺ y z w s = when (not (eqb z w)) ((1000 - loss D y z w) · row 1 y w 0 s)
 
+  unfoldable pub chargeIn⁺ : ℕ → ℕ → ℕ → Linear
+  chargeIn⁺ y g s = when (isBattery D g) (rampsIn 24 23 y g s)
+
+  unfoldable pub levelIn⁺ : ℕ → ℕ → ℕ → Linear
+  levelIn⁺ y g s = when (isBattery D g) (1 · row 21 y g 0 s)
+
   unfoldable pub standing⁺ : Index → Linear
-  unfolding capIn⁺ retireIn⁺ genIn⁺ reserveIn⁺ transIn⁺
+  unfolding capInSlice⁺ capIn⁺ retireIn⁺ genIn⁺ reserveIn⁺ transIn⁺ chargeIn⁺ levelIn⁺
   standing⁺ (index k y i j s) =
-      getD (capIn⁺ y i ∷ nothing ∷ retireIn⁺ y i ∷ genIn⁺ y i s ∷ reserveIn⁺ y i s ∷ transIn⁺ y i j s ∷ 1 · row 1 y i 0 s ∷ nothing ∷ 1 · row 3 y i 0 s ∷ 1 · row 4 y i 0 0 ∷ [])
+      getD (capIn⁺ y i ∷ nothing ∷ retireIn⁺ y i ∷ genIn⁺ y i s ∷ reserveIn⁺ y i s ∷ transIn⁺ y i j s ∷ 1 · row 1 y i 0 s ∷ nothing ∷ 1 · row 3 y i 0 s ∷ 1 · row 4 y i 0 0 ∷ chargeIn⁺ y i s ∷ levelIn⁺ y i s ∷ [])
       k nothing
 
   -- negative coefficients
@@ -70,8 +91,7 @@ module _ (D : Data) where
   genIn⁻ y g s =
       when (isVre D g) (err D · row 3 y (zone D g) 0 s)
       ⊕ 1000 · row 5 y g 0 s
-      ⊕ when (afterFirstHour D (s + 1)) (1000 · row 7 y g 0 (s + 1))
-      ⊕ when (afterFirstHour D s) (1000 · row 8 y g 0 s)
+      ⊕ rampsIn 8 7 y g s
       ⊕ (1000 * duration D s) · row 10 y g 0 (season D s)
       ⊕ when (isVre D g) (1000 · row 11 y g 0 s)
       ⊕ (duration D s * heatRate D g) · row 17 y (zone D g) (fuel D g) 0
@@ -84,10 +104,21 @@ module _ (D : Data) where
   unfoldable pub transIn⁻ : ℕ → ℕ → ℕ → ℕ → Linear
   transIn⁻ y z w s = when (not (eqb z w)) (1000 · row 1 y z 0 s) ⊕ 1 · row 2 y z w s ⊕ when (not (eqb z w)) (1000 · row 3 y w 0 s)
 
+  unfoldable pub chargeIn⁻ : ℕ → ℕ → ℕ → Linear
+  chargeIn⁻ y g s =
+      1000 · row 1 y (zone D g) 0 s
+      ⊕ when (isBattery D g) (efficiency D g · row 21 y g 0 s)
+      ⊕ 1 · row 22 y g 0 s
+      ⊕ when (isBattery D g) (rampsIn 23 24 y g s)
+
+  -- the level of a slice is what the next one of its day starts from
+  unfoldable pub levelIn⁻ : ℕ → ℕ → ℕ → Linear
+  levelIn⁻ y g s = when (isBattery D g) (when (afterFirstHour D (s + 1)) (1 · row 21 y g 0 (s + 1))) ⊕ 1 · row 25 y g 0 s
+
   unfoldable pub standing⁻ : Index → Linear
-  unfolding capIn⁻ buildIn⁻ retireIn⁻ genIn⁻ reserveIn⁻ transIn⁻
+  unfolding capIn⁻ buildIn⁻ retireIn⁻ genIn⁻ reserveIn⁻ transIn⁻ chargeIn⁻ levelIn⁻
   standing⁻ (index k y i j s) =
-      getD (capIn⁻ y i ∷ buildIn⁻ y i ∷ retireIn⁻ y i ∷ genIn⁻ y i s ∷ reserveIn⁻ y i s ∷ transIn⁻ y i j s ∷ nothing ∷ 1 · row 1 y i 0 s ∷ nothing ∷ nothing ∷ [])
+      getD (capIn⁻ y i ∷ buildIn⁻ y i ∷ retireIn⁻ y i ∷ genIn⁻ y i s ∷ reserveIn⁻ y i s ∷ transIn⁻ y i j s ∷ nothing ∷ 1 · row 1 y i 0 s ∷ nothing ∷ nothing ∷ chargeIn⁻ y i s ∷ levelIn⁻ y i s ∷ [])
       k nothing
 
   -- the plants' zones and fuels are in range, as refusal 3 has it

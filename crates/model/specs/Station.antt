@@ -1,4 +1,4 @@
--- The one-plant station of document 01, and its ten cases.
+-- The one-plant station of document 01, its lists grown by zeros, and its ten cases.
 use mathlib.Core.List.{List, [], _∷_, _++_, map}
 use Prim.Native.Nat.{ℕ, _-_}
 use lib.IntN.{ℤ, pos}
@@ -22,6 +22,7 @@ station =
     ∷ 0 ∷ 0                                                     -- TL, Loss
     ∷ 0 ∷ 0 ∷ 0 ∷ 0 ∷ 0                                         -- zone cap, system cap, Tax, MaxFuel, BuildLimit
     ∷ 1000 ∷ 0 ∷ 0 ∷ 0 ∷ 0 ∷ 0                                  -- VOLL, SurplusPenalty, RESVoLL, SRESVoLL, Err, MaxCapital
+    ∷ 0 ∷ 0 ∷ 0                                                 -- battery, efficiency, energy capacity
     ∷ []
 
 -- a case: the scale, the plan's cap, gen, unmet and surplus, row 0's multiplier, and the outcome
@@ -35,7 +36,7 @@ pub record Case : Type 0 where
   pub outcome : Code
 
 abbrev pub planOf : Case → List ℕ
-planOf k = k .cap ∷ 0 ∷ 0 ∷ k .gen ∷ 0 ∷ 0 ∷ k .unmet ∷ k .surplus ∷ 0 ∷ 0 ∷ []
+planOf k = k .cap ∷ 0 ∷ 0 ∷ k .gen ∷ 0 ∷ 0 ∷ k .unmet ∷ k .surplus ∷ 0 ∷ 0 ∷ 0 ∷ 0 ∷ []
 
 abbrev pub multipliersOf : Case → List ℤ
 multipliersOf k = pos (k .multiplier) ∷ replicate (familyCount - 1) (pos 0)

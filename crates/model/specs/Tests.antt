@@ -1,4 +1,4 @@
--- The tests of document 01, each as the refusal that it gives, or none.
+-- The tests of documents 01 and 02, each as the refusal that it gives, or none.
 use mathlib.Core.Bool.{Bool, true, false, not, _&&_, _||_}
 use mathlib.Core.List.{List, [], _∷_}
 use Prim.Native.Nat.{ℕ, zero, suc, _+_, _*_, _-_, _^_}
@@ -11,8 +11,8 @@ use Rattle.sums.specs.Span.{Fault, fine, fault, orElse, upto, total, first}
 use Rattle.sums.specs.Index.{Index, index, count, members}
 use Rattle.sums.specs.Linear.{value, coefficient}
 use Rattle.model.specs.declared.Refusal.{Refusal}
-use Rattle.model.specs.declared.Refusal.the-variants.{Shape, DataLength, Entry, Scale, PlanLength, RowOffScale, Broken, CostOffScale, MultiplierCount, Multiplier, ColumnOffScale, Underpriced, GapOffScale, Board}
-use Rattle.model.specs.Data.{Data, Range, within, Table, tables, tableBoxes, countsOf, mostCounts, placeOf, dataLength, read, Y, G, S, _to_, all}
+use Rattle.model.specs.declared.Refusal.the-variants.{Shape, DataLength, Entry, Scale, PlanLength, RowOffScale, Broken, CostOffScale, MultiplierCount, Multiplier, ColumnOffScale, Underpriced, GapOffScale, Board, Storage}
+use Rattle.model.specs.Data.{Data, Range, within, Table, tables, tableBoxes, countsOf, mostCounts, placeOf, dataLength, read, Y, G, S, isBattery, isVre, _to_, all}
 use Rattle.model.specs.Columns.{columns, columnNumber, columnBoxes, entries}
 use Rattle.model.specs.Families.{Equation, equation, equal, familyIn, rows, rowNumber, rowBoxes}
 use Rattle.model.specs.Prices.{price, cost}
@@ -28,7 +28,7 @@ unfoldable pub unless : Bool → Refusal → Fault Refusal
 unless true r = fine
 unless false r = fault r
 
--- The data (1, 2, 3)
+-- The data (1, 2, 3, 16)
 
 -- 2: under 7
 unfoldable pub headFault : List ℕ → Fault Refusal
@@ -53,8 +53,15 @@ entryFault D (index t y i j s) =
 unfoldable pub entriesFault : Data → Fault Refusal
 entriesFault D = first (members (tableBoxes (D .counts))) (entryFault D)
 
+-- 16: a battery has VRE set; the lowest such plant
+unfoldable pub plantStorageFault : Data → ℕ → Fault Refusal
+plantStorageFault D g = unless (not (isBattery D g && isVre D g)) (Storage g)
+
+unfoldable pub storageFault : Data → Fault Refusal
+storageFault D = upto (G D) (plantStorageFault D)
+
 unfoldable pub dataFault : List ℕ → Fault Refusal
-dataFault l = orElse (headFault l) (orElse (countsFault l) (orElse (lengthFault l) (entriesFault (read l))))
+dataFault l = orElse (headFault l) (orElse (countsFault l) (orElse (lengthFault l) (orElse (entriesFault (read l)) (storageFault (read l)))))
 
 -- The plan (4 to 8)
 

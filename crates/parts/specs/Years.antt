@@ -13,8 +13,12 @@ abbrev pub genKind : ℕ
 genKind = 3
 abbrev pub reserveKind : ℕ
 reserveKind = 4
+abbrev pub chargeKind : ℕ
+chargeKind = 10
+abbrev pub levelKind : ℕ
+levelKind = 11
 
--- a year's part of table t of columns by year, plant and slice (gen or reserve): entry g, s stands at g·S + s
+-- a year's part of table t of columns by year, plant and slice (gen, reserve, charge or level): entry g, s stands at g·S + s
 pub record YearPart (plan part : List ℕ) (c : Counts) (t y : ℕ) : Type 0 where
   pub long : length part ≡ c .plants * slicesOf c
   pub is : (g s : ℕ) → g < c .plants → s < slicesOf c → getD part (g * slicesOf c + s) 0 ≡ planEntry c plan (index t y g 0 s)

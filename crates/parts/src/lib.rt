@@ -1,4 +1,4 @@
-// What rows, costs and posting read in common: the calendar of the slices, and the year's parts of the gen and reserve tables.
+// What rows, costs and posting read in common: the calendar of the slices, and the year's parts of the gen, reserve, charge and level tables.
 pub mod board;
 pub mod slices;
 pub mod years;

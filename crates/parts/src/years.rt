@@ -1,4 +1,4 @@
-// The year's parts of the tables by year, plant and slice (gen and reserve).
+// The year's parts of the tables by year, plant and slice (gen, reserve, charge and level).
 use model::Counts;
 use tables::entries::wide;
 use tables::sets::slices_of;

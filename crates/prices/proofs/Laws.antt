@@ -92,7 +92,7 @@ module _ (D : Data) (c : Counts) (x : Index → ℕ) {t : ℕ} (h : Hourly t) (y
 
 -- the kinds of column that are not priced by the hour
 abbrev byUnit : List ℕ
-byUnit = 0 ∷ 1 ∷ 2 ∷ 5 ∷ 9 ∷ []
+byUnit = 0 ∷ 1 ∷ 2 ∷ 5 ∷ 9 ∷ 10 ∷ 11 ∷ []
 
 not-both : {A : Type 0} → true ≡ false → A
 not-both e = let z : _≡_ {A = ℕ} 0 1 = ap (λ (b : Bool). cond b 0 1) e in absurd (omega arith)
@@ -109,6 +109,8 @@ others-hourly =
     ▹ (λ e. unmet)
     ▹ (λ e. surplus)
     ▹ (λ e. spinshort)
+    ▹ not-both
+    ▹ not-both
     ▹ not-both
 
 -- what the last arm of a `match` over the others knows
@@ -134,6 +136,8 @@ module _ (D : Data) (y i j s : ℕ) where
       ▹ in-order _
       ▹ in-order _
       ▹ mul-one _
+      ▹ refl
+      ▹ refl
 
 -- so is what the code makes of the two
 pub column-price : (D : Data) (p : Place) {unit whole : Sum} {hours : ℕ} → p .kind < columnKindCount → unit ≡ cap (unitPrice D (p .kind) (p .year) (p .first))
@@ -198,8 +202,16 @@ module _ (D : Data) (y i j s : ℕ) where
   unfolding price
   trans-free = refl
 
+  charge-free : price D (index 10 y i j s) ≡ 0
+  unfolding price
+  charge-free = refl
+
+  level-free : price D (index 11 y i j s) ≡ 0
+  unfolding price
+  level-free = refl
+
 pub cost-by-year : (D : Data) (c : Counts) (x : Index → ℕ) → D .counts ≡ c → cost D x ≡ sum (c .years) (λ y. yearCost D c x y)
 unfolding cost columnBoxes yearCost hoursCost
 cost-by-year D c x e =
     rw (← e)
-    (sum-kinds _ ∙ simp (sum-single, build-free, retire-free, trans-free, zero-mul, sum-const-zero, sum-add, zero-add, add-zero, add-assoc))
+    (sum-kinds _ ∙ simp (sum-single, build-free, retire-free, trans-free, charge-free, level-free, zero-mul, sum-const-zero, sum-add, zero-add, add-zero, add-assoc))

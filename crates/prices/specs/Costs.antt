@@ -45,11 +45,11 @@ hourPrice D t y i =
 unfoldable pub unitPrice : Data → ℕ → ℕ → ℕ → ℕ
 unitPrice D k y i =
     let hour = hourPrice D k y i * yearWeight D y in
-    getD (yearWeight D y * (fixedOM D y i + on (candidate D i) (annuity D y i)) ∷ 0 ∷ 0 ∷ hour ∷ hour ∷ 0 ∷ hour ∷ hour ∷ hour ∷ yearWeight D y * resVoLL D ∷ []) k 0
+    getD (yearWeight D y * (fixedOM D y i + on (candidate D i) (annuity D y i)) ∷ 0 ∷ 0 ∷ hour ∷ hour ∷ 0 ∷ hour ∷ hour ∷ hour ∷ yearWeight D y * resVoLL D ∷ 0 ∷ 0 ∷ []) k 0
 
 -- the hours of a slice, 1 in a table that is not priced by the hour
 unfoldable pub hoursOf : Data → ℕ → ℕ → ℕ
-hoursOf D k s = getD (1 ∷ 1 ∷ 1 ∷ duration D s ∷ duration D s ∷ 1 ∷ duration D s ∷ duration D s ∷ duration D s ∷ 1 ∷ []) k 1
+hoursOf D k s = getD (1 ∷ 1 ∷ 1 ∷ duration D s ∷ duration D s ∷ 1 ∷ duration D s ∷ duration D s ∷ duration D s ∷ 1 ∷ 1 ∷ 1 ∷ []) k 1
 
 module _ (D : Data) (c : Counts) (x : Index → ℕ) where
   abbrev pub term : Index → ℕ
@@ -70,6 +70,6 @@ module _ (D : Data) (c : Counts) (x : Index → ℕ) where
   unfoldable pub hoursCost : ℕ → ℕ
   hoursCost y = hourlyCost 3 y + hourlyCost 4 y + hourlyCost 6 y + hourlyCost 7 y + hourlyCost 8 y
 
-  -- build, retire and trans have no price
+  -- build, retire, trans, charge and level have no price
   unfoldable pub yearCost : ℕ → ℕ
   yearCost y = capCost y + hoursCost y + firmshortCost y

@@ -7,8 +7,10 @@ use tables::entries::by_slice;
 use tables::entries::single;
 use tables::names::BUILD;
 use tables::names::CAP;
+use tables::names::CHARGE;
 use tables::names::DURATION;
 use tables::names::FIRMSHORT;
+use tables::names::LEVEL;
 use tables::names::RES_VOLL;
 use tables::names::RETIRE;
 use tables::names::TRANS;
@@ -24,7 +26,7 @@ ghost use Rattle.model.specs.Columns.{columnKindCount};
 ghost use Rattle.tables.specs.Layout.{TablesAt};
 ghost use Rattle.prices.specs.Costs.{setOf, firstsOf, unitPrice, hoursOf};
 
-// Of table k, year y, plant or zone i. Build, retire and trans have no price.
+// Of table k, year y, plant or zone i. Build, retire, trans, charge and level have no price.
 pub fn unit_price(data: &[u32], tables_at: &Starts, c: Counts, k: usize, y: usize, i: usize) -> Sum
     requires { ⌜ TablesAt (now «data») (now «tables_at») c × ((k < columnKindCount) × ((y < c .years) × (i < firstsOf c k))) ⌝ }
     ensures { λ r. ⌜ r ≡ cap (unitPrice (read (now («data» .entry))) k y i) ⌝ }
@@ -36,6 +38,8 @@ pub fn unit_price(data: &[u32], tables_at: &Starts, c: Counts, k: usize, y: usiz
         RETIRE => capped::zero(),
         TRANS => capped::zero(),
         FIRMSHORT => capped::product(share, single(data, tables_at, c, RES_VOLL)),
+        CHARGE => capped::zero(),
+        LEVEL => capped::zero(),
         // the tables priced by the hour
         _ => capped::scale(hour_price(data, tables_at, c, k, y, i), share),
     }
@@ -52,6 +56,8 @@ pub fn hours_of(data: &[u32], tables_at: &Starts, c: Counts, k: usize, s: usize)
         RETIRE => 1,
         TRANS => 1,
         FIRMSHORT => 1,
+        CHARGE => 1,
+        LEVEL => 1,
         _ => by_slice(data, tables_at, c, DURATION, s),
     }
 }

@@ -72,4 +72,7 @@ fixed =
     ∷ anyNumber       -- 39 SRESVoLL
     ∷ perMille        -- 40 Err
     ∷ anyNumber       -- 41 MaxCapital
+    ∷ flag            -- 42 battery
+    ∷ perMille        -- 43 efficiency
+    ∷ anyNumber       -- 44 energy capacity
     ∷ []

@@ -84,6 +84,9 @@ const FIXED: [Range; TABLE_COUNT] = [
     ANY, // 39 SRESVoLL
     PER_MILLE, // 40 Err
     ANY, // 41 MaxCapital
+    FLAG, // 42 battery
+    PER_MILLE, // 43 efficiency
+    ANY, // 44 energy capacity
 ];
 
 fn fixed_range(t: usize) -> Range

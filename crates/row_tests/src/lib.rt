@@ -1,4 +1,4 @@
-// The walk over all rows, in document 01's order, left at the first row not met: refusals 6 and 7.
+// The walk over all rows, in the order of documents 01 and 02, left at the first row not met: refusals 6 and 7.
 use compared::Order;
 use energy::totals::EnergyTable;
 use model::Counts;
@@ -9,7 +9,9 @@ use parts::years::year_part;
 use rows::Sides;
 use rows::families::row_sides;
 use sums::Place;
+use tables::names::CHARGE;
 use tables::names::GEN;
+use tables::names::LEVEL;
 use tables::names::RESERVE;
 use tables::sets::box_of;
 use tables::sets::family_at;
@@ -55,14 +57,15 @@ fn verdict(sides: Sides, equal: bool, row: usize) -> Outcome
 
 // The test of one row, whose number is `row`. Whether its family is one of equalities is looked up once for the family, by the caller.
 fn test_row(
-    data: &[u32], plan: &[u32], outputs: &[u32], reserves: &[u32], energy: &EnergyTable, tables_at: &Starts,
-    columns_at: &Starts, c: Counts, scale: u64, p: Place, equal: bool, row: usize,
+    data: &[u32], plan: &[u32], outputs: &[u32], reserves: &[u32], charges: &[u32], levels: &[u32],
+    energy: &EnergyTable, tables_at: &Starts, columns_at: &Starts, c: Counts, scale: u64, p: Place, equal: bool,
+    row: usize,
 ) -> Outcome
-    requires { ⌜ Ready (now «data») (now plan) (now outputs) (now reserves) (now energy) (now «tables_at») (now «columns_at») c (p .year)
+    requires { ⌜ Ready (now «data») (now plan) (now outputs) (now reserves) (now charges) (now levels) (now energy) (now «tables_at») (now «columns_at») c (p .year)
         × ((p .kind < familyCount) × (Inside c (familyOf (p .kind) .set) (p .year) (p .first) (p .second) (p .slice) × ((equal ≡ familyOf (p .kind) .equal) × (row ≡ number (rowBoxes c) (indexOf p))))) ⌝ }
     ensures { λ r. ⌜ r ≡ outcome (rowFault (read (now («data» .entry))) scale (planEntry c (now (plan .entry))) (indexOf p)) ⌝ }
 {
-    let sides = row_sides(data, plan, outputs, reserves, energy, tables_at, columns_at, c, scale, p);
+    let sides = row_sides(data, plan, outputs, reserves, charges, levels, energy, tables_at, columns_at, c, scale, p);
     verdict(sides, equal, row)
 }
 
@@ -80,11 +83,13 @@ pub fn test_rows(data: &[u32], plan: &[u32], energy: &EnergyTable, tables_at: &S
         for y in 0..b.years {
             let outputs = year_part(plan, columns_at[GEN], places, y);
             let reserves = year_part(plan, columns_at[RESERVE], places, y);
+            let charges = year_part(plan, columns_at[CHARGE], places, y);
+            let levels = year_part(plan, columns_at[LEVEL], places, y);
             for i in 0..b.firsts {
                 for j in 0..b.seconds {
                     for s in 0..b.slices {
                         let p = Place { kind: k, year: y, first: i, second: j, slice: s };
-                        match test_row(data, plan, outputs, reserves, energy, tables_at, columns_at, c, scale, p, f.equal, row) {
+                        match test_row(data, plan, outputs, reserves, charges, levels, energy, tables_at, columns_at, c, scale, p, f.equal, row) {
                             Outcome::Fine => row += 1,
                             Outcome::Fails(r) => {
                                 answer = Outcome::Fails(r);

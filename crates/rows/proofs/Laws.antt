@@ -5,7 +5,7 @@ use mathlib.Core.Bool.{Bool, true, false, not, _&&_, _||_}
 use mathlib.Core.Logic.{⊎-elim}
 use mathlib.Core.List.{List}
 use Prim.Native.Nat.{ℕ, _+_, _*_, _-_, _%_, _≤_, _<_}
-use native.Mathlib.Nat.{add-zero, zero-add, mul-zero, zero-mod}
+use native.Mathlib.Nat.{add-zero, zero-add, mul-zero, zero-mod, sub-self}
 use native.Mathlib.Omega.{arith}
 use lib.Dec.{eqb, leb, ltb}
 use lib.ListN.{getD}
@@ -24,7 +24,7 @@ use Rattle.parts.proofs.Laws.{after-first}
 use Rattle.terms.proofs.Laws.{plus-on}
 use Rattle.constants.specs.declared.Constant.{Constant}
 use Rattle.rows.specs.declared.Sides.{Sides}
-use Rattle.rows.specs.Ready.{sides, sidesWith}
+use Rattle.rows.specs.Ready.{sides, sidesWith, high}
 
 -- Sums
 
@@ -51,10 +51,18 @@ nothing-plus u e = e ∙ ap cap (sym (zero-add u))
 pub plus-if-is : {r s : Sum} {n v : ℕ} (b : Bool) (m a : ℕ) → r ≡ plusIf b s (a * n) → s ≡ cap m → n ≡ v → r ≡ cap (m + on b (a * v))
 plus-if-is {v = v} b m a e h q = e ∙ rw (h, q) (plus-on b m (a * v))
 
--- an entry of a year's part is the plan's
+-- an entry of a year's part is the plan's: by itself, 1000 times, and under a test
+pub part-value : {plan part : List ℕ} {c : Counts} {t y g s : ℕ} → YearPart plan part c t y → g < c .plants → s < slicesOf c
+    → {v : ℕ} → v ≡ getD part (g * slicesOf c + s) 0 → v ≡ planEntry c plan (index t y g 0 s)
+part-value p hg hs e = e ∙ p .is _ _ hg hs
+
 pub part-entry : {plan part : List ℕ} {c : Counts} {t y g s : ℕ} → YearPart plan part c t y → g < c .plants → s < slicesOf c
     → {r : Sum} → r ≡ cap (1000 * getD part (g * slicesOf c + s) 0) → r ≡ cap (1000 * planEntry c plan (index t y g 0 s))
-part-entry p hg hs e = e ∙ ap (λ (v : ℕ). cap (1000 * v)) (p .is _ _ hg hs)
+part-entry p hg hs e = e ∙ ap (λ (v : ℕ). cap (1000 * v)) (part-value p hg hs refl)
+
+pub part-if : {plan part : List ℕ} {c : Counts} {t y g s : ℕ} → YearPart plan part c t y → g < c .plants → s < slicesOf c
+    → {r : Sum} (b : Bool) → r ≡ cap (on b (1 * getD part (g * slicesOf c + s) 0)) → r ≡ cap (on b (1 * planEntry c plan (index t y g 0 s)))
+part-if p hg hs b e = e ∙ ap (λ (v : ℕ). cap (on b (1 * v))) (part-value p hg hs refl)
 
 -- a year's part stands for the plan, in a sum over the plants for which w stands for z
 pub part-sum : {plan part : List ℕ} {c : Counts} {t y s : ℕ} → YearPart plan part c t y → s < slicesOf c
@@ -70,6 +78,10 @@ two-sums u v h k = rw (h, k)
 module _ (N u v : ℕ) {r : Sides} where
   pub plain : r ≡ sides u v → r ≡ sides (u + N * (0 - 0)) (v + N * (0 - 0))
   plain e = e ∙ rw (mul-zero, add-zero u, add-zero v)
+
+  -- under a test the constant of such a row is two numbers that are the same
+  pub plain-under : (k : ℕ) → r ≡ sides u v → r ≡ sides (u + N * (k - k)) (v + N * (k - k))
+  plain-under k e = rw (sub-self k) (plain e)
 
   pub constant : {a b : Sum} {k K : Constant} → r ≡ sidesWith a b N k → k ≡ K → a ≡ cap u → b ≡ cap v
       → r ≡ sides (u + N * (K .adds - K .takes)) (v + N * (K .takes - K .adds))
@@ -93,6 +105,11 @@ later-hour t e h = sym (after-first t e) ∙ ap not h
 pub some-before : {b : Bool} (s n : ℕ) → b ≡ eqb (s % n) 0 → b ≡ false → 1 ≤ s
 some-before s n e h =
     ⊎-elim (λ (l : s ≤ 0). let z : s ≡ 0 = omega arith in absurd (eqb-false (s % n) 0 (sym e ∙ h) (rw z (zero-mod n)))) (λ (l : 0 < s). l) (le-or-lt s 0)
+
+-- of a slice and the one before it, each is a slice
+pub high-inside : (falls : Bool) {s n : ℕ} → s < n → high falls s < n
+high-inside true h = omega (arith, h)
+high-inside false h = h
 
 -- out of service, by kind, year of retirement or commission, and the year now, counted from 1
 abbrev pub out : ℕ → ℕ → ℕ → Bool

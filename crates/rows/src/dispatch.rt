@@ -20,24 +20,22 @@ use tables::names::MIN_CAP_FAC;
 use tables::names::MIN_LOAD;
 use tables::names::OVER_LOAD;
 use tables::names::PROFILE;
-use tables::names::RAMP_DN;
-use tables::names::RAMP_UP;
 use tables::names::RES_OFFER;
-use tables::names::VRE;
+use tables::plants::is_vre;
 use tables::starts::Starts;
 use terms::plants::season_hours;
 ghost use mathlib.Core.Path.{_≡_};
-ghost use Prim.Native.Nat.{ℕ, _+_, _*_, _<_};
+ghost use Prim.Native.Nat.{ℕ, _+_, _*_, _≤_, _<_};
 ghost use lib.ListN.{length, getD};
 ghost use Rattle.capped.specs.Cap.{cap};
-ghost use Rattle.model.specs.Counts.{slicesOf};
+ghost use Rattle.model.specs.Counts.{slicesOf, [g]};
 ghost use Rattle.model.specs.Data.{read};
-ghost use Rattle.model.specs.Columns.{cap as capColumn, gen};
+ghost use Rattle.model.specs.Columns.{cap as capColumn};
 ghost use Rattle.model.specs.Families.{row};
-ghost use Rattle.tables.specs.Layout.{Counted, TablesAt, ColumnsAt, planEntry};
+ghost use Rattle.tables.specs.Layout.{Counted, TablesAt, ColumnsAt, EntryAt, planEntry};
 ghost use Rattle.parts.specs.Years.{YearPart, genKind, reserveKind};
 ghost use Rattle.energy.specs.Energies.{Energies};
-ghost use Rattle.rows.specs.Ready.{sidesOf, sides};
+ghost use Rattle.rows.specs.Ready.{sidesOf, termsOf, high, low, rampOf};
 
 // rate·cap, the rate in thousandths.
 fn rate_of_capacity(plan: &[u32], columns_at: &Starts, c: Counts, rate: u64, y: usize, g: usize) -> Sum
@@ -47,7 +45,7 @@ fn rate_of_capacity(plan: &[u32], columns_at: &Starts, c: Counts, rate: u64, y: 
     capped::product(rate, planned_by_year_plant(plan, columns_at, c, CAP, y, g))
 }
 
-// 1000 times an entry of a year's part of gen or reserve, to stand beside a rate of capacity.
+// 1000 times an entry of a year's part of gen, reserve or charge, to stand beside a rate of capacity.
 fn in_thousandths(part: &[u32], c: Counts, g: usize, s: usize) -> Sum
     requires { ⌜ Counted c × ((length (now part) ≡ c .plants * slicesOf c) × ((g < c .plants) × (s < slicesOf c))) ⌝ }
     ensures { λ r. ⌜ r ≡ cap (1000 * getD (now (part .entry)) (g * slicesOf c + s) 0) ⌝ }
@@ -82,40 +80,46 @@ pub fn offer(data: &[u32], plan: &[u32], reserves: &[u32], tables_at: &Starts, c
     }
 }
 
-// 7 (24), t > 0: 1000·(gen[s−1] − gen[s]) ≤ RampDn·cap
-pub fn ramp_down(data: &[u32], plan: &[u32], outputs: &[u32], tables_at: &Starts, columns_at: &Starts, c: Counts, y: usize, g: usize, s: usize) -> Sides
-    requires { ⌜ (TablesAt (now «data») (now «tables_at») c × (ColumnsAt (now plan) (now «columns_at») c × YearPart (now plan) (now outputs) c genKind y)) × ((y < c .years) × ((g < c .plants) × (s < slicesOf c))) ⌝ }
-    ensures { λ r. ⌜ ((N : ℕ) → r ≡ sidesOf (read (now («data» .entry))) N (planEntry c (now (plan .entry))) (row 7 y g 0 s)) ⌝ }
+// What a ramp bounds: how far an hour's output or charge may lie below that of the hour before, or above it.
+pub const FALL: bool = true;
+pub const RISE: bool = false;
+
+// A ramp over the hour before, t > 0, of a year's part of gen or charge: 1000 times its fall, or its rise, is at most the table `rate` times cap.
+// 7 (24): the fall of gen, RampDn; 8 (25): its rise, RampUp; 23 and 24 by `charge_ramp`.
+pub fn ramp(
+    data: &[u32], plan: &[u32], part: &[u32], tables_at: &Starts, columns_at: &Starts, c: Counts, rate: usize,
+    falls: bool, y: usize, g: usize, s: usize,
+) -> Sides
+    requires { ⌜ (EntryAt (now «data») (now «tables_at») c rate [g] 0 g 0 0 × (ColumnsAt (now plan) (now «columns_at») c × (length (now part) ≡ c .plants * slicesOf c))) × ((y < c .years) × ((g < c .plants) × (s < slicesOf c))) ⌝ }
+    ensures { λ r. ⌜ ((k : ℕ) → YearPart (now (plan .entry)) (now (part .entry)) c k y → r ≡ termsOf (rampOf (read (now («data» .entry))) (read (now («data» .entry)) .entry rate 0 g 0 0) k falls y g s) (planEntry c (now (plan .entry)))) ⌝ }
 {
     if first_hour(c, s) {
         return empty();
     }
-    let rate = by_plant(data, tables_at, c, RAMP_DN, g);
-    ramp(plan, outputs, columns_at, c, rate, y, g, s - 1, s)
-}
-
-// 8 (25), t > 0: 1000·(gen[s] − gen[s−1]) ≤ RampUp·cap
-pub fn ramp_up(data: &[u32], plan: &[u32], outputs: &[u32], tables_at: &Starts, columns_at: &Starts, c: Counts, y: usize, g: usize, s: usize) -> Sides
-    requires { ⌜ (TablesAt (now «data») (now «tables_at») c × (ColumnsAt (now plan) (now «columns_at») c × YearPart (now plan) (now outputs) c genKind y)) × ((y < c .years) × ((g < c .plants) × (s < slicesOf c))) ⌝ }
-    ensures { λ r. ⌜ ((N : ℕ) → r ≡ sidesOf (read (now («data» .entry))) N (planEntry c (now (plan .entry))) (row 8 y g 0 s)) ⌝ }
-{
-    if first_hour(c, s) {
-        return empty();
-    }
-    let rate = by_plant(data, tables_at, c, RAMP_UP, g);
-    ramp(plan, outputs, columns_at, c, rate, y, g, s, s - 1)
-}
-
-// 1000·(gen[high] − gen[low]) ≤ rate·cap: how far the output of one slice may lie above that of another.
-fn ramp(plan: &[u32], outputs: &[u32], columns_at: &Starts, c: Counts, rate: u64, y: usize, g: usize, high: usize, low: usize) -> Sides
-    requires { ⌜ (Counted c × (ColumnsAt (now plan) (now «columns_at») c × YearPart (now plan) (now outputs) c genKind y)) × ((y < c .years) × ((g < c .plants) × ((high < slicesOf c) × (low < slicesOf c)))) ⌝ }
-    ensures { λ r. ⌜ r ≡ sides (rate * planEntry c (now (plan .entry)) (capColumn y g) + 1000 * planEntry c (now (plan .entry)) (gen y g low)) (1000 * planEntry c (now (plan .entry)) (gen y g high)) ⌝ }
-{
-    let allowed = rate_of_capacity(plan, columns_at, c, rate, y, g);
+    let allowed = rate_of_capacity(plan, columns_at, c, by_plant(data, tables_at, c, rate, g), y, g);
     Sides {
-        above: capped::join(allowed, in_thousandths(outputs, c, g, low)),
-        below: in_thousandths(outputs, c, g, high),
+        above: capped::join(allowed, in_thousandths(part, c, g, low_slice(falls, s))),
+        below: in_thousandths(part, c, g, high_slice(falls, s)),
     }
+}
+
+// Of a slice and the one before it, the one whose column may not lie too far above the other's: the earlier where the fall is bound.
+fn high_slice(falls: bool, s: usize) -> usize
+    requires { ⌜ 1 ≤ s ⌝ }
+    ensures { λ r. ⌜ r ≡ high falls s ⌝ }
+{
+    if falls {
+        return s - 1;
+    }
+    s
+}
+
+// And the other of the two.
+fn low_slice(falls: bool, s: usize) -> usize
+    requires { ⌜ 1 ≤ s ⌝ }
+    ensures { λ r. ⌜ r ≡ low falls s ⌝ }
+{
+    high_slice(!falls, s)
 }
 
 // 9 (26), minimum-load days: 1000·gen ≥ MinCapFac·cap
@@ -159,7 +163,7 @@ pub fn profiled(data: &[u32], plan: &[u32], outputs: &[u32], tables_at: &Starts,
     requires { ⌜ (TablesAt (now «data») (now «tables_at») c × (ColumnsAt (now plan) (now «columns_at») c × YearPart (now plan) (now outputs) c genKind y)) × ((y < c .years) × ((g < c .plants) × (s < slicesOf c))) ⌝ }
     ensures { λ r. ⌜ ((N : ℕ) → r ≡ sidesOf (read (now («data» .entry))) N (planEntry c (now (plan .entry))) (row 11 y g 0 s)) ⌝ }
 {
-    if by_plant(data, tables_at, c, VRE, g) != 1 {
+    if !is_vre(data, tables_at, c, g) {
         return empty();
     }
     let rate = by_plant_slice(data, tables_at, c, PROFILE, g, s);

@@ -2,6 +2,7 @@
 pub mod dispatch;
 pub mod families;
 pub mod fleet;
+pub mod storage;
 pub mod two_sums;
 pub mod zones;
 

@@ -2,6 +2,7 @@
 use crate::Sides;
 use crate::two_sums::at_most;
 use crate::two_sums::with_constant;
+use capped::Sum;
 use constants::zones::balance_constant;
 use constants::zones::firm_constant;
 use constants::zones::spinning_constant;
@@ -27,37 +28,51 @@ use terms::plants::credit_sum;
 use terms::plants::vre_sum;
 use terms::plants::zone_sum;
 ghost use mathlib.Core.Path.{_≡_};
-ghost use Prim.Native.Nat.{_<_};
+ghost use Prim.Native.Nat.{ℕ, _+_, _*_, _<_};
+ghost use lib.Dec.{eqb};
+ghost use lib.ListN.{length};
+ghost use Rattle.capped.specs.Cap.{cap};
 ghost use Rattle.sums.specs.Span.{fine};
-ghost use Rattle.model.specs.Counts.{slicesOf};
-ghost use Rattle.model.specs.Data.{read};
+ghost use Rattle.sums.specs.Sum.{sum, on};
+ghost use Rattle.sums.specs.Index.{index};
+ghost use Rattle.model.specs.Counts.{slicesOf, [yzs]};
+ghost use Rattle.model.specs.Data.{read, zone};
 ghost use Rattle.model.specs.Families.{row};
 ghost use Rattle.model.specs.Tests.{entriesFault};
-ghost use Rattle.tables.specs.Layout.{TablesAt, ColumnsAt, planEntry};
-ghost use Rattle.parts.specs.Years.{YearPart, genKind, reserveKind};
+ghost use Rattle.tables.specs.Layout.{TablesAt, ColumnsAt, PlanEntryAt, planEntry};
+ghost use Rattle.parts.specs.Years.{YearPart, genKind, reserveKind, chargeKind};
 ghost use Rattle.rows.specs.Ready.{sidesOf};
 
-// 1 (14): 1000·Σ gen in z − 1000·Σ trans[z,z2] + Σ (1000 − Loss[z2,z])·trans[z2,z] + unmet − surplus = Demand·EE
+// 1 (14): 1000·Σ gen in z − 1000·Σ charge in z − 1000·Σ trans[z,z2] + Σ (1000 − Loss[z2,z])·trans[z2,z] + unmet − surplus = Demand·EE
 pub fn balance(
-    data: &[u32], plan: &[u32], outputs: &[u32], tables_at: &Starts, columns_at: &Starts, c: Counts, scale: u64,
-    y: usize, z: usize, s: usize,
+    data: &[u32], plan: &[u32], outputs: &[u32], charges: &[u32], tables_at: &Starts, columns_at: &Starts, c: Counts,
+    scale: u64, y: usize, z: usize, s: usize,
 ) -> Sides
-    requires { ⌜ (TablesAt (now «data») (now «tables_at») c × ((entriesFault (read (now «data»)) ≡ fine) × (ColumnsAt (now plan) (now «columns_at») c × YearPart (now plan) (now outputs) c genKind y))) × ((y < c .years) × ((z < c .zones) × (s < slicesOf c))) ⌝ }
+    requires { ⌜ (TablesAt (now «data») (now «tables_at») c × ((entriesFault (read (now «data»)) ≡ fine) × (ColumnsAt (now plan) (now «columns_at») c × (YearPart (now plan) (now outputs) c genKind y × YearPart (now plan) (now charges) c chargeKind y)))) × ((y < c .years) × ((z < c .zones) × (s < slicesOf c))) ⌝ }
     ensures { λ r. ⌜ r ≡ sidesOf (read (now («data» .entry))) scale (planEntry c (now (plan .entry))) (row 1 y z 0 s) ⌝ }
 {
-    let made = zone_sum(data, tables_at, c, outputs, long(z), s);
-    let supplied = capped::join(made, received(data, plan, tables_at, columns_at, c, y, z, s));
-    let above = capped::add_product(
-        supplied,
-        1,
-        planned_by_zone_slice(plan, columns_at, c, UNMET, y, z, s),
-    );
-    let below = capped::add_product(
-        flows(plan, columns_at, c, OUTWARD, y, z, s),
-        1,
-        planned_by_zone_slice(plan, columns_at, c, SURPLUS, y, z, s),
-    );
+    let arrived = received(data, plan, tables_at, columns_at, c, y, z, s);
+    let above = in_zone(data, plan, outputs, tables_at, columns_at, c, arrived, UNMET, y, z, s);
+    let sent = flows(plan, columns_at, c, OUTWARD, y, z, s);
+    let below = in_zone(data, plan, charges, tables_at, columns_at, c, sent, SURPLUS, y, z, s);
     with_constant(above, below, scale, balance_constant(data, tables_at, c, y, z, s))
+}
+
+// One side of a zone's balance: 1000 times what its plants make or charge (`part`), what comes over its links or goes, and unmet or surplus (`kind`).
+fn in_zone(
+    data: &[u32], plan: &[u32], part: &[u32], tables_at: &Starts, columns_at: &Starts, c: Counts, links: Sum,
+    kind: usize, y: usize, z: usize, s: usize,
+) -> Sum
+    requires { ⌜ (TablesAt (now «data») (now «tables_at») c × (PlanEntryAt (now plan) (now «columns_at») c kind [yzs] y z 0 s × (length (now part) ≡ c .plants * slicesOf c))) × (s < slicesOf c) ⌝ }
+    ensures { λ r. ⌜ ((k m : ℕ) → YearPart (now (plan .entry)) (now (part .entry)) c k y → links ≡ cap m
+        → r ≡ cap (sum (c .plants) (λ g. on (eqb (zone (read (now («data» .entry))) g) z) (1000 * planEntry c (now (plan .entry)) (index k y g 0 s))) + m + 1 * planEntry c (now (plan .entry)) (index kind y z 0 s))) ⌝ }
+{
+    let plants = zone_sum(data, tables_at, c, part, long(z), s);
+    capped::add_product(
+        capped::join(plants, links),
+        1,
+        planned_by_zone_slice(plan, columns_at, c, kind, y, z, s),
+    )
 }
 
 // 2 (15): trans ≤ TL

@@ -1,7 +1,8 @@
 -- What the code said, piece by piece, as the definitions' sentences. Assumes nothing.
 use mathlib.Core.Path.{_≡_, ap, _∙_, subst}
 use mathlib.Core.List.{List, _++_}
-use Prim.Native.Nat.{ℕ, _<_}
+use Prim.Native.Nat.{ℕ, _≤_, _<_}
+use native.Mathlib.Omega.{arith}
 use lib.IntN.{ℤ, pos}
 use lib.ListN.{getD}
 use Rattle.sums.specs.declared.Box.{Box}
@@ -16,7 +17,7 @@ use Rattle.model.specs.Tests.{dataFault}
 use Rattle.tables.specs.Layout.{Counted}
 use Rattle.duals.specs.declared.Multiplier.{Multiplier}
 use Rattle.duals.specs.Multipliers.{multiplierOf}
-use Rattle.data_tests.proofs.Passed.{counts-sound, counts-read}
+use Rattle.data_tests.proofs.Passed.{passed-counts, counts-sound, counts-read}
 use Rattle.texts.specs.Claims.{bytes}
 use Rattle.sums.specs.declared.Place.{Place}
 use Rattle.places.specs.Numbers.{Numbered, memberAt}
@@ -25,12 +26,18 @@ use Rattle.figures.specs.declared.RowFigures.{RowFigures}
 use Rattle.figures.specs.declared.ColumnFigures.{ColumnFigures}
 use Rattle.figures.specs.declared.EntryFigures.{EntryFigures}
 use Rattle.figures.specs.Figures.{rowFigures, columnFigures, entryFigures}
+use Rattle.sentences.specs.Asked.{OfPlant}
 use Rattle.sentences.specs.Sentences.{balanceWords, signedWords, rowWords, sumsWords, ruleWords, multiplierRule, offScaleWords, brokenWords, multiplierWords, columnWords, entryWords, pricedWords, figureWords, columnOffScaleWords, underpricedWords, outOfRangeWords}
 
 -- data that passed the tests has counts, and a number that there is at the data's counts is one at those that the code holds
 pub numbered-asked : (l : List ℕ) {c : Counts} → dataFault l ≡ fine → c ≡ countsOf l → (boxes : Counts → List Box) {n : ℕ} → n < count (boxes (read l .counts))
     → Counted c × (n < count (boxes c))
 numbered-asked l s e boxes {n} h = (counts-sound l s e, subst (λ (d : Counts). n < count (boxes d)) (counts-read l e) h)
+
+-- a plant's number can be counted from 1 in a machine word
+pub plant-low : (l : List ℕ) (g : ℕ) → OfPlant l g → g ≤ 1000
+unfolding read
+plant-low l g h = omega (arith, passed-counts l (h .0) .fewPlants, h .1)
 
 -- Sentences: what the code said, piece by piece, is the definition's. c are the data's counts, p the place of the number n.
 

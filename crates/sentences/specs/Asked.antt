@@ -6,7 +6,7 @@ use lib.IntN.{ℤ}
 use lib.ListN.{length}
 use Rattle.sums.specs.Span.{fine, orElse}
 use Rattle.sums.specs.Index.{count}
-use Rattle.model.specs.Data.{dataLength, read}
+use Rattle.model.specs.Data.{dataLength, read, G}
 use Rattle.model.specs.Columns.{columnBoxes}
 use Rattle.model.specs.Families.{rowBoxes}
 use Rattle.model.specs.Tests.{headFault, countsFault, lengthFault, dataFault}
@@ -23,9 +23,17 @@ OfMultiplier l ms r = (dataFault l ≡ fine) × ((length ms ≡ count (rowBoxes 
 abbrev pub OfColumn : List ℕ → List ℤ → ℕ → Type 0
 OfColumn l ms c = (dataFault l ≡ fine) × ((length ms ≡ count (rowBoxes (read l .counts))) × (c < count (columnBoxes (read l .counts))))
 
+-- refusals 1 and 2 do not come
+abbrev pub HeadFine : List ℕ → Type 0
+HeadFine l = orElse (headFault l) (orElse (countsFault l) (lengthFault l)) ≡ fine
+
 -- an entry after the seven counts
 abbrev pub OfEntry : List ℕ → ℕ → Type 0
-OfEntry l e = (orElse (headFault l) (orElse (countsFault l) (lengthFault l)) ≡ fine) × ((7 ≤ e) × (e < dataLength (read l .counts)))
+OfEntry l e = HeadFine l × ((7 ≤ e) × (e < dataLength (read l .counts)))
+
+-- a plant
+abbrev pub OfPlant : List ℕ → ℕ → Type 0
+OfPlant l g = HeadFine l × (g < G (read l))
 
 -- a count
 abbrev pub OfCount : List ℕ → ℕ → Type 0

@@ -1,4 +1,4 @@
--- Rows, columns, entries and figures in words, as bytes. A row, a column and an entry have the number that an answer gives; their indices are counted from 1.
+-- Rows, columns, entries, plants and figures in words, as bytes. A row, a column and an entry have the number that an answer gives; their indices, and a plant, are counted from 1.
 use mathlib.Core.Bool.{Bool, cond}
 use mathlib.Core.List.{List, _++_}
 use Prim.Native.Nat.{ℕ, _-_}
@@ -28,7 +28,7 @@ use Rattle.figures.specs.declared.ColumnFigures.{ColumnFigures}
 use Rattle.figures.specs.declared.EntryFigures.{EntryFigures}
 use Rattle.figures.specs.Figures.{rowFigures, columnFigures, entryFigures}
 use Rattle.sentences.specs.Names.{countNames, tableNames, columnNames, familyNames}
-use Rattle.index_words.specs.Indices.{placeWords}
+use Rattle.index_words.specs.Indices.{counted, placeWords}
 
 -- words and a number
 abbrev pub with : String → ℕ → List ℕ
@@ -125,6 +125,10 @@ module _ (D : Data) where
 
   unfoldable pub outOfRangeWords : ℕ → List ℕ
   outOfRangeWords n = entryWords (D .counts) n (entry n) ++ figureWords (entryFigures D (entry n))
+
+-- a battery with VRE set
+unfoldable pub storageWords : ℕ → List ℕ
+storageWords g = counted "plant " g ++ bytes " is a battery and has VRE set"
 
 -- a count out of range
 unfoldable pub shapeWords : List ℕ → ℕ → List ℕ

@@ -34,7 +34,7 @@ fn say_row(line: &mut [u8; ROOM], at: usize, c: Counts, row: usize, p: Place) ->
     let numbered = say_with(line, at, b"row ", row as u64);
     let equation = say_with(line, numbered, b", equation (", f.equation as u64);
     let closed = say(line, equation, b") ");
-    let named = say_name(line, closed, b"demand balance/transfer limit/spinning reserve/planning reserve/output and reserve/reserve offer/ramp down/ramp up/minimum load/availability/VRE profile/capacity balance/capacity outside its years/build and retirement by kind/new capacity/yearly build/fuel/capital/zone emissions/system emissions", family);
+    let named = say_name(line, closed, b"demand balance/transfer limit/spinning reserve/planning reserve/output and reserve/reserve offer/ramp down/ramp up/minimum load/availability/VRE profile/capacity balance/capacity outside its years/build and retirement by kind/new capacity/yearly build/fuel/capital/zone emissions/system emissions/battery level/charge limit/charge rise/charge fall/level limit", family);
     say_place(line, named, c, f.set, p)
 }
 

@@ -15,6 +15,20 @@ pub on-zero : (b : Bool) → on b 0 ≡ 0
 on-zero true = refl
 on-zero false = refl
 
+pub on-add : (b : Bool) (u v : ℕ) → on b (u + v) ≡ on b u + on b v
+on-add true u v = refl
+on-add false u v = refl
+
+pub on-both : (a b : Bool) (u : ℕ) → on (a && b) u ≡ on a (on b u)
+on-both true b u = refl
+on-both false b u = refl
+
+pub on-false : (b : Bool) (u : ℕ) → b ≡ false → on b u ≡ 0
+on-false b u e = ap (λ (a : Bool). on a u) e
+
+pub on-true : (b : Bool) (u : ℕ) → b ≡ true → on b u ≡ u
+on-true b u e = ap (λ (a : Bool). on a u) e
+
 pub on-mul : (b : Bool) (u v : ℕ) → on b u * v ≡ on b (u * v)
 on-mul true u v = refl
 on-mul false u v = zero-mul v

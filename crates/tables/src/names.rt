@@ -41,6 +41,9 @@ pub const RES_VOLL: usize = 38;
 pub const SRES_VOLL: usize = 39;
 pub const ERR: usize = 40;
 pub const MAX_CAPITAL: usize = 41;
+pub const BATTERY: usize = 42;
+pub const EFFICIENCY: usize = 43;
+pub const ENERGY_CAPACITY: usize = 44;
 
 pub const CAP: usize = 0;
 pub const BUILD: usize = 1;
@@ -52,3 +55,5 @@ pub const UNMET: usize = 6;
 pub const SURPLUS: usize = 7;
 pub const SPINSHORT: usize = 8;
 pub const FIRMSHORT: usize = 9;
+pub const CHARGE: usize = 10;
+pub const LEVEL: usize = 11;

@@ -31,7 +31,7 @@ pub const BY_LINK_SEASON: usize = 15; // y, z, z2, q
 pub const BY_LINK: usize = 16; // y, z, z2
 pub const BY_YEAR_FUEL: usize = 17; // y, f
 
-// Equation number, index set and equality of each family, in document 01's order.
+// Equation number, index set and equality of each family, in the order of documents 01 and 02.
 const FAMILIES: [Family; FAMILY_COUNT] = [
     Family { equation: 14, set: BY_YEAR_ZONE_SLICE, equal: true },
     Family { equation: 15, set: BY_LINK_SLICE, equal: false },
@@ -53,6 +53,11 @@ const FAMILIES: [Family; FAMILY_COUNT] = [
     Family { equation: 64, set: SINGLE, equal: false },
     Family { equation: 66, set: BY_YEAR_ZONE, equal: false },
     Family { equation: 68, set: BY_YEAR, equal: false },
+    Family { equation: 43, set: BY_YEAR_PLANT_SLICE, equal: true },
+    Family { equation: 45, set: BY_YEAR_PLANT_SLICE, equal: false },
+    Family { equation: 47, set: BY_YEAR_PLANT_SLICE, equal: false },
+    Family { equation: 48, set: BY_YEAR_PLANT_SLICE, equal: false },
+    Family { equation: 46, set: BY_YEAR_PLANT_SLICE, equal: false },
 ];
 
 pub fn family_at(k: usize) -> Family

@@ -79,6 +79,9 @@ const TABLE_SETS: [usize; TABLE_COUNT] = [
     SINGLE, // 39 SRESVoLL
     SINGLE, // 40 Err
     SINGLE, // 41 MaxCapital
+    BY_PLANT, // 42 battery
+    BY_PLANT, // 43 efficiency
+    BY_PLANT, // 44 energy capacity
 ];
 
 // The code of each kind of column's index set, in the order of the plan.
@@ -93,6 +96,8 @@ const COLUMN_SETS: [usize; COLUMN_KIND_COUNT] = [
     BY_YEAR_ZONE_SLICE, // 7 surplus
     BY_YEAR_ZONE_SLICE, // 8 spinshort
     BY_YEAR_ZONE, // 9 firmshort
+    BY_YEAR_PLANT_SLICE, // 10 charge
+    BY_YEAR_PLANT_SLICE, // 11 level
 ];
 
 // The code of the index set of a table of the data.

@@ -1,7 +1,7 @@
 -- The laws of the loops that sum: what holds after k turns, before the first, after one turn more, and at the end. Assumes nothing.
 -- `Summed` and `Added` are records and no products, so that a law finds the term f and the number of turns in the invariant.
 use mathlib.Core.Path.{_≡_, refl, sym, ap, _∙_}
-use mathlib.Core.Bool.{Bool, true, false, _&&_}
+use mathlib.Core.Bool.{Bool, true, false}
 use Prim.Native.Nat.{ℕ, _+_, _*_, _≤_, _<_, zero-le}
 use native.Mathlib.Nat.{add-zero, le-antisymm, mul-assoc, mul-le-mul}
 use native.Mathlib.Omega.{arith}
@@ -20,10 +20,6 @@ use Rattle.tables.specs.Layout.{Counted}
 pub plus-on : (b : Bool) (m n : ℕ) → plusIf b (cap m) n ≡ cap (m + on b n)
 plus-on true m n = plus-cap m n
 plus-on false m n = ap cap (sym (add-zero m))
-
-pub on-both : (a b : Bool) (n : ℕ) → on (a && b) n ≡ on a (on b n)
-on-both true b n = refl
-on-both false b n = refl
 
 -- Capped sums: after k of n turns s is the sum of the first k terms.
 

@@ -6,19 +6,24 @@ use epm_reference::generator::anything::{any_contents, any_lists, steep};
 use epm_reference::generator::draft::Case;
 use epm_reference::generator::random::Random;
 use epm_reference::generator::stations::stations;
-use epm_reference::generator::{case, extremes, multiplier_edges, twice_damaged_case};
+use epm_reference::generator::{case, extremes, multiplier_edges, range_edges, twice_damaged_case};
 use epm_reference::met::{absent, Met};
 use epm_reference::model::Model;
 use epm_reference::refusal::{
-    Refusal, BROKEN, COLUMN_OFF_SCALE, MULTIPLIER, ROW_OFF_SCALE, UNDERPRICED,
+    Refusal, COLUMN_OFF_SCALE, OF_ALL_CALLS, OF_CERTIFY, OF_POST, PLACED,
 };
+use epm_reference::storage_count::StorageCount;
 use std::fmt::{self, Debug};
 
-/// Refusals that post can give, by number. Check gives those up to 8.
-const OF_POST: [u32; 9] = [1, 2, 3, 4, 5, 6, 7, 8, 14];
+/// Refusals that post can give, in the order of its tests.
+fn by_post() -> Vec<u32> {
+    [&OF_ALL_CALLS[..], &OF_POST].concat()
+}
 
-/// Refusals that certify can give, by number.
-const OF_CERTIFY: [u32; 13] = [1, 2, 3, 4, 5, 6, 7, 8, 9, 10, 11, 12, 13];
+/// Refusals that certify can give, in the order of its tests.
+fn by_certify() -> Vec<u32> {
+    [&OF_ALL_CALLS[..], &OF_CERTIFY].concat()
+}
 
 /// What was met, and where the two differed.
 #[derive(Default)]
@@ -36,14 +41,16 @@ pub struct Agreement {
     /// Certificates whose bound, cost less gap, is above 0.
     pub bounds_above_zero: u64,
     pub by_certify: Met,
+    /// What the inputs of certify had of batteries.
+    pub storage: StorageCount,
     /// First columns off scale that are underpriced as well.
     pub off_scale_and_underpriced: u64,
     pub differences: Vec<String>,
 }
 
 /// The inputs of seeds 0..inputs, the station's ten cases, the cases at the limit
-/// of the sums, multipliers at the ends of their ranges, cases with two faults and
-/// lists of any content.
+/// of the sums, entries and multipliers at the ends of their ranges, cases with two
+/// faults and lists of any content.
 pub fn measure(inputs: u64) -> Agreement {
     let mut agreement = Agreement::default();
     for seed in 0..inputs {
@@ -58,6 +65,9 @@ pub fn measure(inputs: u64) -> Agreement {
     for seed in 0..inputs / 200 {
         for case in multiplier_edges(seed) {
             agreement.compare(&format!("multiplier edge, seed {seed}"), &case);
+        }
+        for case in range_edges(seed) {
+            agreement.compare(&format!("entry edge, seed {seed}"), &case);
         }
     }
     let mut random = Random::new(inputs);
@@ -83,6 +93,7 @@ impl Agreement {
         let answered = calls::certify(data, scale, plan, &case.multipliers);
         self.hold(label, "certify", &expected, &answered);
         self.count_certify(case, expected);
+        self.storage.count(case, expected);
 
         let mut expected_board = case.board.clone();
         let mut board = case.board.clone();
@@ -130,15 +141,10 @@ impl Agreement {
     /// What was not met, and every difference.
     pub fn failures(&self) -> Vec<String> {
         let mut failures = self.differences.clone();
-        let mut missing = self.by_post.missing(&OF_POST);
-        missing.extend(self.by_certify.missing(&OF_CERTIFY));
-        missing.extend(self.by_certify.missing_places(&[
-            ROW_OFF_SCALE,
-            BROKEN,
-            MULTIPLIER,
-            COLUMN_OFF_SCALE,
-            UNDERPRICED,
-        ]));
+        let mut missing = self.by_post.missing(&by_post());
+        missing.extend(self.by_certify.missing(&by_certify()));
+        missing.extend(self.by_certify.missing_places(&PLACED));
+        missing.extend(self.storage.missing());
         missing.extend(absent(&[
             (self.written, "a board written"),
             (self.far_from_zero, "a certificate far from zero"),
@@ -172,7 +178,12 @@ impl fmt::Display for Agreement {
             "  three quarters of the multipliers not 0 {}, some below 0 {}, bound above 0 {}",
             self.far_from_zero, self.below_zero, self.bounds_above_zero
         )?;
-        write!(f, "{}", self.by_certify.table(&OF_CERTIFY))?;
+        write!(
+            f,
+            "{}{}",
+            self.by_certify.table(&by_certify()),
+            self.storage
+        )?;
         writeln!(
             f,
             "  columns off scale that are underpriced as well {}",
@@ -183,6 +194,6 @@ impl fmt::Display for Agreement {
             "post: {} accepted, {} boards changed",
             self.posted, self.written
         )?;
-        writeln!(f, "  refusals {}", self.by_post.line(&OF_POST))
+        writeln!(f, "  refusals {}", self.by_post.line(&by_post()))
     }
 }

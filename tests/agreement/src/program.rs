@@ -12,7 +12,7 @@ use epm_reference::generator::stations::stations;
 use epm_reference::generator::{case, extremes, multiplier_edges, range_edges, twice_damaged_case};
 use epm_reference::met::{absent, Met};
 use epm_reference::program::{answer, answer_line, read_lines};
-use epm_reference::refusal::{BROKEN, ENTRY, PLACED, UNDERPRICED};
+use epm_reference::refusal::{BROKEN, ENTRY, FRAME, OF_ALL_CALLS, OF_CERTIFY, PLACED, UNDERPRICED};
 use std::collections::BTreeMap;
 use std::fmt;
 use std::io::{self, Write};
@@ -26,8 +26,11 @@ const PROGRAMS: &str = concat!(env!("CARGO_MANIFEST_DIR"), "/../../target/bin");
 /// The bytes of standard input that a program keeps (`crates/standard_input`).
 pub const BUFFER: usize = 180_224;
 
-/// Refusals that the programs can give, by number: all but that of the board.
-const REFUSALS: [u32; 14] = [1, 2, 3, 4, 5, 6, 7, 8, 9, 10, 11, 12, 13, 15];
+/// Refusals that the programs can give, in the order of their tests: those of certify
+/// after Frame.
+fn refusals() -> Vec<u32> {
+    [&[FRAME], &OF_ALL_CALLS[..], &OF_CERTIFY].concat()
+}
 
 /// The proved programs.
 #[derive(Clone, Copy, Debug, PartialEq, Eq)]
@@ -232,7 +235,7 @@ impl ProgramAgreement {
     /// What was not met, and every difference.
     pub fn failures(&self) -> Vec<String> {
         let mut failures = self.differences.clone();
-        let mut missing = self.met.missing(&REFUSALS);
+        let mut missing = self.met.missing(&refusals());
         let damages = LINE_DAMAGES.map(|damage| format!("{damage:?}"));
         let without = damages
             .into_iter()
@@ -243,7 +246,7 @@ impl ProgramAgreement {
             (self.larger_than_buffer, "an input larger than the buffer"),
         ]));
         failures.extend(missing.iter().map(|word| format!("not met: {word}")));
-        let mut unsaid = self.explained.missing(&REFUSALS);
+        let mut unsaid = self.explained.missing(&refusals());
         unsaid.extend(self.explained.missing_places(&PLACED));
         failures.extend(unsaid.iter().map(|word| format!("not explained: {word}")));
         failures
@@ -260,8 +263,8 @@ impl fmt::Display for ProgramAgreement {
             self.larger_than_buffer,
             self.differences.len()
         )?;
-        write!(f, "{}", self.met.table(&REFUSALS))?;
-        writeln!(f, "explained: {}", self.explained.line(&REFUSALS))?;
+        write!(f, "{}", self.met.table(&refusals()))?;
+        writeln!(f, "explained: {}", self.explained.line(&refusals()))?;
         let named = [
             (BROKEN, "families"),
             (UNDERPRICED, "tables of columns"),

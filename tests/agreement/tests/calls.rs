@@ -2,19 +2,17 @@
 
 use epm::raw::{self, epm_certify, epm_check, epm_post, OUT_TOO_SHORT};
 use epm_agreement::{certify, check, measure, measure_rivals, post, Agreement};
+use epm_reference::columns::{Column, ColumnLayout};
 use epm_reference::data::DataLayout;
-use epm_reference::generator::draft::Case;
+use epm_reference::generator::draft::{Case, Draft};
 use epm_reference::generator::random::Random;
-use epm_reference::generator::{shape, sound_case};
+use epm_reference::generator::{full_size_case, shape, sound_case, LARGEST_COUNTS};
 use epm_reference::rows::RowLayout;
 use epm_reference::shape::Shape;
 use epm_reference::Refusal;
 use std::ptr::{null, null_mut};
 
 const UNTOUCHED: u64 = 0x5555_5555_5555_5555;
-
-/// The largest counts.
-const LARGEST: [usize; 7] = [8, 32, 8, 4, 4, 24, 10];
 
 /// Where there are differences, the first few of them are enough to look into.
 fn none_differ(agreement: &Agreement) {
@@ -72,16 +70,17 @@ fn only_the_first_two_words_of_out_are_written() {
     let status = raw::certify(&case.data, case.scale, &case.plan, &multipliers, &mut out);
     assert_eq!(status, 0);
     assert_eq!(out, [cost, gap, UNTOUCHED, UNTOUCHED, UNTOUCHED]);
-    multipliers[19] = -1;
+    let last = multipliers.len() - 1;
+    multipliers[last] = -1;
     let status = raw::certify(&case.data, case.scale, &case.plan, &multipliers, &mut out);
     assert_eq!(status, 10);
-    assert_eq!(out, [19, 0, UNTOUCHED, UNTOUCHED, UNTOUCHED]);
+    assert_eq!(out, [last as u64, 0, UNTOUCHED, UNTOUCHED, UNTOUCHED]);
 }
 
 /// Twice as many numbers as the longest list that passes, the multipliers of the
 /// largest shape.
 fn very_long() -> usize {
-    2 * RowLayout::new(Shape::new(LARGEST)).count()
+    2 * RowLayout::new(Shape::new(LARGEST_COUNTS)).count()
 }
 
 /// A case with one list of another length, and what certify has to answer. The
@@ -138,8 +137,8 @@ fn a_very_long_board_is_written_at_its_end() {
 /// and of data that go on for twice as long as any list that passes.
 #[test]
 fn the_largest_counts_want_their_length() {
-    let counts = LARGEST.map(|count| count as u32);
-    let wanted = DataLayout::new(Shape::new(LARGEST)).length();
+    let counts = LARGEST_COUNTS.map(|count| count as u32);
+    let wanted = DataLayout::new(Shape::new(LARGEST_COUNTS)).length();
     let mut agreement = Agreement::default();
     for length in [counts.len(), very_long()] {
         let mut case = sound_case(Shape::new([1; 7]), 3);
@@ -158,6 +157,7 @@ fn an_empty_list_may_have_a_null_pointer() {
     let case = sound_case(Shape::new([1; 7]), 4);
     let (data, entries) = (case.data.as_ptr(), case.data.len());
     let (plan, columns) = (case.plan.as_ptr(), case.plan.len());
+    let rows = case.multipliers.len() as u64;
     let (scale, mut out) = (case.scale, [UNTOUCHED; 2]);
     // SAFETY: each pointer and length is that of one list, or null and 0.
     unsafe {
@@ -167,7 +167,7 @@ fn an_empty_list_may_have_a_null_pointer() {
         assert_eq!((answer, out), (5, [columns as u64, 0]));
         let (none, written) = (null(), out.as_mut_ptr());
         let answer = epm_certify(data, entries, scale, plan, columns, none, 0, written, 2);
-        assert_eq!((answer, out), (9, [20, 0]));
+        assert_eq!((answer, out), (9, [rows, 0]));
         let (none, written) = (null_mut(), out.as_mut_ptr());
         let answer = epm_post(
             data, entries, scale, plan, columns, 0, none, 0, 0, written, 2,
@@ -185,10 +185,10 @@ fn no_rival_is_below_a_certificate() {
 }
 
 /// The largest shape, more than a million rows: accepted, and with a fault in the
-/// last column and in the last row.
+/// last column that can have one and in the last row.
 #[test]
 fn the_calls_agree_at_full_size() {
-    let mut case = sound_case(Shape::new(LARGEST), 1);
+    let mut case = full_size_case();
     let used = case.multipliers.iter().filter(|m| **m != 0).count();
     assert!(
         2 * used > case.multipliers.len(),
@@ -199,15 +199,22 @@ fn the_calls_agree_at_full_size() {
     none_differ(&agreement);
     assert_eq!((agreement.certified, agreement.posted), (1, 1));
 
-    // RESVoLL, the third of six singles, is the price of firmshort; (21) of the
-    // last year and zone asks 1 of the last of these columns.
-    let price = case.data.len() - 4;
-    let rows = RowLayout::new(Shape::new(LARGEST));
-    case.data[price] = 0;
+    // The last column that can be underpriced is the last battery's level in the last
+    // year and slice: its price is 0, and the level's row asks 1 of it.
+    let shape = Shape::new(LARGEST_COUNTS);
+    let (rows, columns) = (RowLayout::new(shape), ColumnLayout::new(shape));
+    let draft = Draft::of(case.clone());
+    let battery = (0..shape.plants).rfind(|&g| draft.is_battery(g));
+    let last = [
+        shape.years - 1,
+        battery.expect("a battery"),
+        shape.slices() - 1,
+    ];
     case.multipliers.fill(0);
-    case.multipliers[rows.index(4, &[9, 7])] = 1;
+    case.multipliers[rows.index(21, &last)] = 1;
     let answer = certify(&case.data, case.scale, &case.plan, &case.multipliers);
-    assert_eq!(answer, Err(Refusal::at(12, case.plan.len() - 1)));
+    let level = columns.index(Column::Level, &last);
+    assert_eq!(answer, Err(Refusal::at(12, level)));
     *case.multipliers.last_mut().expect("a row") = -1;
     let answer = certify(&case.data, case.scale, &case.plan, &case.multipliers);
     assert_eq!(answer, Err(Refusal::at(10, rows.count() - 1)));

@@ -1,5 +1,5 @@
 //! Document 01, "Calls": check, certify and post, with the tests in the order
-//! of "Refusals by number".
+//! of "Refusals by number"; 16 comes with the tests of the data, after 3.
 
 use crate::columns::Column;
 use crate::model::{Model, Row};
@@ -13,7 +13,9 @@ use crate::sums::{SignedSum, LIMIT};
 /// N is 1..1000.
 pub const LARGEST_SCALE: u32 = 1000;
 
-/// Multipliers are −2^40..2^40 in families 1 and 12, 0..2^40 elsewhere.
+/// Multipliers are −2^40..2^40 in the families of equalities, 1, 12 and 21, and
+/// 0..2^40 elsewhere. The range goes by family: rows of 21 that read 0 ≥ 0 take both
+/// signs too (docs/DECISIONS.md, "Multipliers and gap").
 pub const LARGEST_MULTIPLIER: i64 = 1 << 40;
 
 /// Tests data, scale and plan; answers the cost.

@@ -16,6 +16,9 @@ pub enum Column {
     Surplus,
     SpinShort,
     FirmShort,
+    // Request (i).
+    Charge,
+    Level,
 }
 
 pub struct ColumnEntry {
@@ -34,10 +37,10 @@ const fn entry(column: Column, name: &'static str, axes: &'static [Axis]) -> Col
     ColumnEntry { column, name, axes }
 }
 
-pub const COLUMN_TABLES: usize = 10;
+pub const COLUMN_TABLES: usize = 12;
 
-/// Unmet, surplus, spinshort and firmshort are in Nths of a kW, the others in
-/// Nths of a MW.
+/// Unmet, surplus, spinshort and firmshort are in Nths of a kW, level in Nths of
+/// a kWh, the others in Nths of a MW.
 pub const COLUMNS: [ColumnEntry; COLUMN_TABLES] = [
     entry(Column::Cap, "cap", YG),
     entry(Column::Build, "build", YG),
@@ -49,6 +52,8 @@ pub const COLUMNS: [ColumnEntry; COLUMN_TABLES] = [
     entry(Column::Surplus, "surplus", YZS),
     entry(Column::SpinShort, "spinshort", YZS),
     entry(Column::FirmShort, "firmshort", YZ),
+    entry(Column::Charge, "charge", YGS),
+    entry(Column::Level, "level", YGS),
 ];
 
 /// Where each table of the plan starts.
@@ -83,6 +88,12 @@ impl ColumnLayout {
     pub fn index(&self, column: Column, indices: &[usize]) -> usize {
         let entry = &COLUMNS[column as usize];
         self.starts[column as usize] + self.shape.place(entry.axes, indices)
+    }
+
+    /// The numbers of a table's columns.
+    pub fn of_table(&self, column: Column) -> std::ops::Range<usize> {
+        let start = self.starts[column as usize];
+        start..start + self.shape.size(COLUMNS[column as usize].axes)
     }
 
     /// The table and indices of a column number.

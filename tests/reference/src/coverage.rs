@@ -1,18 +1,22 @@
 //! Which answers the generated inputs reach: every refusal, every family as the
-//! first broken row, every table of columns as the first underpriced.
+//! first broken row and as the first multiplier out of range, every table of columns
+//! as the first underpriced, every range of the data.
 
 use crate::calls::{certify, check, post};
-use crate::generator::case;
 use crate::generator::draft::Case;
 use crate::generator::frames;
 use crate::generator::random::Random;
+use crate::generator::{case, multiplier_edges, range_edges};
 use crate::met::{absent, Met};
 use crate::program;
-use crate::refusal::{Refusal, BROKEN, FRAME, UNDERPRICED};
+use crate::refusal::{Refusal, BROKEN, ENTRY, FRAME, MULTIPLIER, REFUSAL_COUNT, UNDERPRICED};
+use crate::storage_count::StorageCount;
 use std::fmt;
 
 /// Every refusal by its number.
-const REFUSALS: [u32; 15] = [1, 2, 3, 4, 5, 6, 7, 8, 9, 10, 11, 12, 13, 14, 15];
+fn refusals() -> Vec<u32> {
+    (1..=REFUSAL_COUNT as u32).collect()
+}
 
 /// Counts over a run of seeded inputs.
 #[derive(Clone, Debug, Default, PartialEq, Eq)]
@@ -25,16 +29,22 @@ pub struct Coverage {
     pub bounds_above_zero: u64,
     /// Each refusal that an input met in some call, once for each input.
     pub met: Met,
+    pub storage: StorageCount,
 }
 
 /// Runs the inputs of seeds 0..inputs through all calls and, where they are
-/// small enough, through the program as well.
+/// small enough, through the program as well; and of one seed in two hundred the
+/// entries and multipliers at the ends of their ranges.
 pub fn measure(inputs: u64) -> Coverage {
     let mut coverage = Coverage::default();
     for seed in 0..inputs {
         let generated = case(seed);
         coverage.count_case(&generated.case);
         coverage.count_text(seed, &generated.case);
+    }
+    for seed in 0..inputs / 200 {
+        let edges = [range_edges(seed), multiplier_edges(seed)].concat();
+        edges.iter().for_each(|case| coverage.count_case(case));
     }
     coverage
 }
@@ -62,6 +72,7 @@ impl Coverage {
         if certified.is_ok_and(|(cost, gap)| cost > gap) {
             self.bounds_above_zero += 1;
         }
+        self.storage.count(case, certified);
         let mut counted = vec![];
         for refusal in refusals {
             if !counted.contains(&refusal.number) {
@@ -83,8 +94,10 @@ impl Coverage {
 
     /// The counts that are 0, in words.
     pub fn missing(&self) -> Vec<String> {
-        let mut missing = self.met.missing(&REFUSALS);
-        missing.extend(self.met.missing_places(&[BROKEN, UNDERPRICED]));
+        let mut missing = self.met.missing(&refusals());
+        let placed = [ENTRY, BROKEN, MULTIPLIER, UNDERPRICED];
+        missing.extend(self.met.missing_places(&placed));
+        missing.extend(self.storage.missing());
         missing.extend(absent(&[
             (self.accepted, "accepted"),
             (self.bounds_above_zero, "bound above 0"),
@@ -109,6 +122,7 @@ impl fmt::Display for Coverage {
         writeln!(f, "inputs {}, texts {}", self.inputs, self.texts)?;
         writeln!(f, "accepted by all calls {}", self.accepted)?;
         writeln!(f, "certificates above 0 {}", self.bounds_above_zero)?;
-        write!(f, "refusals met:\n{}", self.met.table(&REFUSALS))
+        write!(f, "{}", self.storage)?;
+        write!(f, "refusals met:\n{}", self.met.table(&refusals()))
     }
 }

@@ -1,7 +1,7 @@
 //! Document 01, "The data": the tables in order, their index sets and ranges,
-//! and the tests of refusals 1, 2 and 3.
+//! and the tests of refusals 1, 2, 3 and 16.
 
-use crate::refusal::{Refusal, DATA_LENGTH, ENTRY, SHAPE};
+use crate::refusal::{Refusal, DATA_LENGTH, ENTRY, SHAPE, STORAGE};
 use crate::shape::{Axis, Shape, COUNTS};
 
 /// The tables in the order of the data list. Requests append at the end.
@@ -49,6 +49,10 @@ pub enum Table {
     SresVoll,
     Err,
     MaxCapital,
+    // Request (i).
+    Battery,
+    Efficiency,
+    EnergyCapacity,
 }
 
 /// The range of a table's entries. The last four depend on the plant's kind or
@@ -110,7 +114,7 @@ const fn entry(
     }
 }
 
-pub const TABLE_COUNT: usize = 42;
+pub const TABLE_COUNT: usize = 45;
 
 /// The data list after its seven counts.
 pub const TABLES: [TableEntry; TABLE_COUNT] = [
@@ -156,6 +160,9 @@ pub const TABLES: [TableEntry; TABLE_COUNT] = [
     entry(Table::SresVoll, "SRESVoLL", SINGLE, Range::Any),
     entry(Table::Err, "Err", SINGLE, THOUSANDTHS),
     entry(Table::MaxCapital, "MaxCapital", SINGLE, Range::Any),
+    entry(Table::Battery, "battery", G, FLAG),
+    entry(Table::Efficiency, "efficiency", G, THOUSANDTHS),
+    entry(Table::EnergyCapacity, "energy capacity", G, Range::Any),
 ];
 
 /// Where each table starts in the data list.
@@ -204,7 +211,7 @@ impl DataLayout {
     }
 }
 
-/// A data list that passed the tests of refusals 1, 2 and 3.
+/// A data list that passed the tests of refusals 1, 2, 3 and 16.
 #[derive(Clone, Debug)]
 pub struct Data<'a> {
     pub shape: Shape,
@@ -229,10 +236,11 @@ pub fn read_shape(list: &[u32]) -> Result<Shape, Refusal> {
 }
 
 impl<'a> Data<'a> {
-    /// The tests of refusals 2, 1, 2 and 3, in that order.
+    /// The tests of refusals 2, 1, 2, 3 and 16, in that order.
     pub fn read(list: &'a [u32]) -> Result<Data<'a>, Refusal> {
         let data = Data::laid_out(list)?;
         data.test_entries()?;
+        data.test_batteries()?;
         Ok(data)
     }
 
@@ -262,6 +270,15 @@ impl<'a> Data<'a> {
             }
         }
         Ok(())
+    }
+
+    /// Refusal 16, after every entry: a battery has VRE set; the lowest such plant.
+    fn test_batteries(&self) -> Result<(), Refusal> {
+        let mut plants = 0..self.shape.plants;
+        match plants.find(|&plant| self.is_battery(plant) && self.is_vre(plant)) {
+            Some(plant) => Err(Refusal::at(STORAGE, plant)),
+            None => Ok(()),
+        }
     }
 
     /// The least and the most that an entry may be. The kind table lies before the
@@ -302,6 +319,10 @@ impl<'a> Data<'a> {
 
     pub fn is_vre(&self, plant: usize) -> bool {
         self.at(Table::Vre, &[plant]) == 1
+    }
+
+    pub fn is_battery(&self, plant: usize) -> bool {
+        self.at(Table::Battery, &[plant]) == 1
     }
 
     pub fn zone_of(&self, plant: usize) -> usize {

@@ -9,7 +9,7 @@ use crate::model::Model;
 use crate::program::{answer, answer_line, read_lines, Input};
 use crate::refusal::{
     Refusal, BROKEN, COLUMN_OFF_SCALE, COST_OFF_SCALE, DATA_LENGTH, ENTRY, FRAME, GAP_OFF_SCALE,
-    MULTIPLIER, MULTIPLIER_COUNT, PLAN_LENGTH, ROW_OFF_SCALE, SCALE, SHAPE, UNDERPRICED,
+    MULTIPLIER, MULTIPLIER_COUNT, PLAN_LENGTH, ROW_OFF_SCALE, SCALE, SHAPE, STORAGE, UNDERPRICED,
 };
 use crate::rows::FAMILIES;
 use crate::shape::{Axis, Shape, COUNTS};
@@ -55,6 +55,7 @@ fn body(read: &Input, refusal: Refusal) -> String {
         COLUMN_OFF_SCALE => column_off_scale(read, place),
         UNDERPRICED => underpriced(read, place),
         GAP_OFF_SCALE => "a sum of the terms N*m*k is more than 2^62 - 1".to_string(),
+        STORAGE => format!("plant {} is a battery and has VRE set", place + 1),
         FRAME => format!(
             "line {place} of the input is not a line of DATA, PLAN, SCAL or DUAL as \
              docs/FORMAT.md has them, or brings more numbers than may come"

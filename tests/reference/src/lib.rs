@@ -1,5 +1,6 @@
 //! Second implementation of document 01, "EPM plan certificates: equations,
-//! prices and the board", written from that document alone.
+//! prices and the board", and of document 02's requests as far as they have
+//! landed, written from those documents alone.
 //!
 //! It exists to test the proved implementation: the same inputs go to both
 //! and the answers are compared. It is therefore written for reading and not
@@ -7,19 +8,22 @@
 //! fit.
 //!
 //! The law is in `shape`, `data`, `columns`, `rows`, `prices`, `sums`,
-//! `calls`, `program` and `rival`; `explain` says an answer in words. The inputs for the tests come from
-//! `generator`; `coverage` counts which answers those inputs reach,
-//! `rival_count` the rivals that certificates are held to.
+//! `calls`, `program` and `rival`; `explain` says an answer in words. The inputs for
+//! the tests come from `generator`; `optimum` works out the least cost of small ones,
+//! `coverage` counts which answers the inputs reach, `storage_count` what they have of
+//! batteries, `rival_count` the rivals that certificates are held to.
 
 pub mod calls;
 pub mod columns;
 pub mod coverage;
 pub mod data;
 pub mod explain;
+pub mod fraction;
 pub mod generator;
 pub mod met;
 pub mod model;
 pub mod mps;
+pub mod optimum;
 pub mod prices;
 pub mod program;
 pub mod refusal;
@@ -28,6 +32,7 @@ pub mod rival_count;
 pub mod rounding;
 pub mod rows;
 pub mod shape;
+pub mod storage_count;
 pub mod sums;
 pub mod wide;
 

@@ -1,4 +1,4 @@
-//! The rows of document 01 as lists of terms: one coefficient a per column and
+//! The rows of documents 01 and 02 as lists of terms: one coefficient a per column and
 //! one constant k. "L ≤ R" is read as R − L ≥ 0, the others as L − R.
 
 use crate::columns::{Column, ColumnLayout};
@@ -50,7 +50,7 @@ impl<'a> Model<'a> {
         self.row_of(family, &indices)
     }
 
-    /// The row of a family 1..20. "A row whose condition fails .. reads 0 ≥ 0": it
+    /// The row of a family, from 1. "A row whose condition fails .. reads 0 ≥ 0": it
     /// has no terms and constant 0. A sum without members leaves the constant
     /// (docs/DECISIONS.md, "Rows": "A condition that fails", "A sum without members").
     pub fn row_of(&self, family: usize, i: &[usize]) -> Row {
@@ -76,6 +76,11 @@ impl<'a> Model<'a> {
             18 => self.capital(&mut row),
             19 => self.zone_emissions(&mut row, i[0], i[1]),
             20 => self.system_emissions(&mut row, i[0]),
+            21 => self.battery_level(&mut row, i[0], i[1], i[2]),
+            22 => self.charge_limit(&mut row, i[0], i[1], i[2]),
+            23 => self.charge_rise(&mut row, i[0], i[1], i[2]),
+            24 => self.charge_fall(&mut row, i[0], i[1], i[2]),
+            25 => self.level_limit(&mut row, i[0], i[1], i[2]),
             _ => panic!("no family {family}"),
         }
         Row {
@@ -85,12 +90,15 @@ impl<'a> Model<'a> {
         }
     }
 
-    /// 1 (14): 1000·Σ gen in z − 1000·Σ trans[z,z2]
+    /// 1 (14): 1000·Σ gen in z − 1000·Σ charge in z − 1000·Σ trans[z,z2]
     /// + Σ (1000 − Loss[z2,z])·trans[z2,z] + unmet − surplus = Demand·EE.
+    ///
+    /// The charge of every plant counts, whether it is a battery or not.
     fn demand_balance(&self, row: &mut RowBuilder, y: usize, z: usize, s: usize) {
         let data = &self.data;
         for g in data.plants_in(z) {
             row.add(1000, Column::Gen, &[y, g, s]);
+            row.add(-1000, Column::Charge, &[y, g, s]);
         }
         for z2 in data.zones_beside(z) {
             let received = 1000 - data.at(Table::Loss, &[y, z2, z]);
@@ -332,6 +340,58 @@ impl<'a> Model<'a> {
             self.emissions_of(row, y, g);
         }
         row.constant = 1000 * self.data.at(Table::SystemCap, &[y]);
+    }
+
+    /// 21 (42) and (43), batteries: level = earlier level (0 before a day's first
+    /// slice) + efficiency·charge − 1000·gen, all of the same slice, which counts as
+    /// one hour: Dur also carries a typical day's repeats.
+    fn battery_level(&self, row: &mut RowBuilder, y: usize, g: usize, s: usize) {
+        if !self.data.is_battery(g) {
+            return;
+        }
+        let efficiency = self.data.at(Table::Efficiency, &[g]);
+        row.add(1, Column::Level, &[y, g, s]);
+        if self.data.shape.hour_of(s) > 0 {
+            row.add(-1, Column::Level, &[y, g, s - 1]);
+        }
+        row.add(-efficiency, Column::Charge, &[y, g, s]);
+        row.add(1000, Column::Gen, &[y, g, s]);
+    }
+
+    /// 22 (45): charge ≤ cap, and ≤ 0 where the plant is no battery.
+    fn charge_limit(&self, row: &mut RowBuilder, y: usize, g: usize, s: usize) {
+        if self.data.is_battery(g) {
+            row.add(1, Column::Cap, &[y, g]);
+        }
+        row.add(-1, Column::Charge, &[y, g, s]);
+    }
+
+    /// 23 (47), batteries, t > 0: 1000·(charge[s] − charge[s−1]) ≤ RampDn·cap.
+    fn charge_rise(&self, row: &mut RowBuilder, y: usize, g: usize, s: usize) {
+        if !self.data.is_battery(g) || self.data.shape.hour_of(s) == 0 {
+            return;
+        }
+        row.add(self.data.at(Table::RampDn, &[g]), Column::Cap, &[y, g]);
+        row.add(-1000, Column::Charge, &[y, g, s]);
+        row.add(1000, Column::Charge, &[y, g, s - 1]);
+    }
+
+    /// 24 (48), batteries, t > 0: 1000·(charge[s−1] − charge[s]) ≤ RampUp·cap.
+    fn charge_fall(&self, row: &mut RowBuilder, y: usize, g: usize, s: usize) {
+        if !self.data.is_battery(g) || self.data.shape.hour_of(s) == 0 {
+            return;
+        }
+        row.add(self.data.at(Table::RampUp, &[g]), Column::Cap, &[y, g]);
+        row.add(-1000, Column::Charge, &[y, g, s - 1]);
+        row.add(1000, Column::Charge, &[y, g, s]);
+    }
+
+    /// 25 (46): level ≤ energy capacity, and ≤ 0 where the plant is no battery.
+    fn level_limit(&self, row: &mut RowBuilder, y: usize, g: usize, s: usize) {
+        row.add(-1, Column::Level, &[y, g, s]);
+        if self.data.is_battery(g) {
+            row.constant = self.data.at(Table::EnergyCapacity, &[g]);
+        }
     }
 
     fn emissions_of(&self, row: &mut RowBuilder, y: usize, g: usize) {

@@ -19,6 +19,7 @@ impl Model<'_> {
         match column {
             Column::Cap => weight * self.capacity_price(i[0], i[1]),
             Column::Build | Column::Retire | Column::Trans => 0,
+            Column::Charge | Column::Level => 0,
             Column::Gen => weighted_hours(i[2]) * self.generation_price(i[0], i[1]),
             Column::Reserve => weighted_hours(i[2]) * data.at(Table::ResCost, &[i[1]]),
             Column::Unmet => weighted_hours(i[2]) * data.single(Table::Voll),

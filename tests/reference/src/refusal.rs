@@ -1,4 +1,4 @@
-//! Document 01, "Refusals by number".
+//! Document 01, "Refusals by number", and the refusals that requests append.
 
 use std::fmt;
 
@@ -24,6 +24,33 @@ pub const UNDERPRICED: u32 = 12;
 pub const GAP_OFF_SCALE: u32 = 13;
 pub const BOARD: u32 = 14;
 pub const FRAME: u32 = 15;
+pub const STORAGE: u32 = 16;
+
+/// How many refusals there are; they number from 1.
+pub const REFUSAL_COUNT: usize = 16;
+
+/// The refusals of data, scale and plan, which check, certify and post all test.
+pub const OF_ALL_CALLS: [u32; 9] = [
+    SHAPE,
+    DATA_LENGTH,
+    ENTRY,
+    STORAGE,
+    SCALE,
+    PLAN_LENGTH,
+    ROW_OFF_SCALE,
+    BROKEN,
+    COST_OFF_SCALE,
+];
+
+/// The refusals that certify tests beside them, and the one that post does.
+pub const OF_CERTIFY: [u32; 5] = [
+    MULTIPLIER_COUNT,
+    MULTIPLIER,
+    COLUMN_OFF_SCALE,
+    UNDERPRICED,
+    GAP_OFF_SCALE,
+];
+pub const OF_POST: [u32; 1] = [BOARD];
 
 /// The refusals whose place is a row, a column or an entry: one of a family or a table.
 pub const PLACED: [u32; 6] = [
@@ -36,7 +63,7 @@ pub const PLACED: [u32; 6] = [
 ];
 
 /// The word of each refusal; refusal `n` is at place `n - 1`.
-pub const WORDS: [&str; 15] = [
+pub const WORDS: [&str; REFUSAL_COUNT] = [
     "Shape",
     "Data length",
     "Entry",
@@ -52,6 +79,7 @@ pub const WORDS: [&str; 15] = [
     "Gap off scale",
     "Board",
     "Frame",
+    "Storage",
 ];
 
 impl Refusal {

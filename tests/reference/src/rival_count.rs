@@ -1,8 +1,10 @@
 //! Demand 3 by experiment: rivals of a certificate, counted.
 
+use crate::columns::{Column, ColumnLayout};
+use crate::data::read_shape;
 use crate::generator::draft::Case;
 use crate::generator::random::Random;
-use crate::generator::rivals::rival;
+use crate::generator::rivals::{rival, Rival};
 use crate::met::absent;
 use crate::model::Model;
 use crate::rival::{evaluate, within_certificate};
@@ -22,6 +24,8 @@ pub struct RivalCount {
     pub other_scale: u64,
     /// Feasible rivals by the way they were made.
     pub labels: BTreeMap<&'static str, u64>,
+    /// Feasible rivals with a battery that charges otherwise than in the plan.
+    pub charging_otherwise: u64,
     /// Feasible rivals with an entry of more than 32 bits.
     pub wide_entries: u64,
     pub cheaper_than_the_plan: u64,
@@ -38,6 +42,16 @@ pub struct RivalCount {
 fn compare(rival: Wide, rival_scale: u64, amount: u64, scale: u32) -> Ordering {
     let left = rival.times(u64::from(scale));
     left.cmp(&Wide::product(u128::from(amount), u128::from(rival_scale)))
+}
+
+/// Whether a charge of the rival in Mths differs from the plan's in Nths.
+fn charges_otherwise(rival: &Rival, case: &Case) -> bool {
+    let columns = ColumnLayout::new(read_shape(&case.data).expect("sound data"));
+    let differs = |column: usize| {
+        let planned = u128::from(case.plan[column]) * u128::from(rival.scale);
+        rival.entries[column] * u128::from(case.scale) != planned
+    };
+    columns.of_table(Column::Charge).any(differs)
 }
 
 impl RivalCount {
@@ -83,6 +97,7 @@ impl RivalCount {
         let multiple = rival.scale.is_multiple_of(u64::from(case.scale));
         *self.labels.entry(rival.label).or_default() += 1;
         self.other_scale += u64::from(!multiple);
+        self.charging_otherwise += u64::from(charges_otherwise(&rival, case));
         self.wide_entries += u64::from(wide);
         self.cheaper_than_the_plan += u64::from(against(cost).is_lt());
         if cost > gap {
@@ -96,6 +111,7 @@ impl RivalCount {
         let missing = absent(&[
             (self.feasible, "feasible"),
             (self.other_scale, "at a scale that is no multiple"),
+            (self.charging_otherwise, "charging otherwise"),
             (self.wide_entries, "of more than 32 bits"),
             (self.cheaper_than_the_plan, "cheaper than the plan"),
             (self.bounded_above_zero, "bounded above 0"),
@@ -121,6 +137,7 @@ impl fmt::Display for RivalCount {
         for (word, count) in [
             ("not feasible, left out", self.infeasible),
             ("at a scale that is no multiple", self.other_scale),
+            ("charging otherwise than the plan", self.charging_otherwise),
             ("with entries of more than 32 bits", self.wide_entries),
             ("cheaper than the plan", self.cheaper_than_the_plan),
             ("bounded above 0", self.bounded_above_zero),

@@ -75,6 +75,7 @@ pub fn plan(model: &Model, scale: u32, entries: &[f64], raising: bool) -> Vec<u3
         plan,
     };
     rounding.capacity(entries);
+    rounding.store(entries);
     rounding.dispatch(entries);
     rounding.balance(entries, raising);
     rounding.reserves(raising);
@@ -181,13 +182,54 @@ impl Rounding<'_> {
         }
     }
 
+    /// Step 2 for batteries, hour by hour from the day's first: charge and gen downward,
+    /// within the capacity; gen no more than the level has. Where the level would be above
+    /// the energy capacity, or above what an entry holds, less charge.
+    fn store(&mut self, entries: &[f64]) {
+        let data = &self.model.data;
+        let shape = data.shape;
+        for g in (0..shape.plants).filter(|&g| data.is_battery(g)) {
+            let efficiency = data.at(Table::Efficiency, &[g]);
+            let capacity = i128::from(self.scale) * data.at(Table::EnergyCapacity, &[g]);
+            let most_level = capacity.min(i128::from(u32::MAX));
+            let over_load = 1000 + data.at(Table::OverLoad, &[g]);
+            for y in 0..shape.years {
+                let mut level = 0;
+                for s in 0..shape.slices() {
+                    let place = [y, g, s];
+                    let earlier = if shape.hour_of(s) == 0 { 0 } else { level };
+                    let cap = self.at(Column::Cap, &[y, g]);
+                    self.round(entries, Column::Charge, &place, false);
+                    self.round(entries, Column::Gen, &place, false);
+                    let mut charge = self.at(Column::Charge, &place).min(cap);
+                    let most = self.at(Column::Gen, &place).min(over_load * cap / 1000);
+                    let gen = loop {
+                        let held = earlier + efficiency * charge;
+                        let gen = most.min(held / 1000);
+                        level = held - 1000 * gen;
+                        if level <= most_level {
+                            break gen;
+                        }
+                        charge -= 1;
+                    };
+                    self.set(Column::Charge, &place, charge);
+                    self.set(Column::Gen, &place, gen);
+                    self.set(Column::Level, &place, level);
+                }
+            }
+        }
+    }
+
     /// Step 2: gen, reserve and trans downward, gen upward where a minimum load asks for it.
     /// Where a limit does not hold then, as a ramp between two hours may not, the entry is
     /// lowered further.
     fn dispatch(&mut self, entries: &[f64]) {
         let columns = (0..self.plan.len()).filter_map(|j| self.model.columns.locate(j));
         let dispatched: Vec<(Column, Vec<usize>)> = columns
-            .filter(|(column, _)| matches!(column, Column::Gen | Column::Reserve | Column::Trans))
+            .filter(|(column, indices)| match column {
+                Column::Gen => !self.model.data.is_battery(indices[1]),
+                column => matches!(column, Column::Reserve | Column::Trans),
+            })
             .collect();
         for (column, indices) in &dispatched {
             self.round(entries, *column, indices, false);
@@ -205,7 +247,8 @@ impl Rounding<'_> {
 
     /// Step 3: what family 1 lacks. The cheapest plant of the zone with headroom is
     /// raised, Nth by Nth; where the zone has none, a link into it, and the sending zone
-    /// makes it good. What is left is unmet, what is too much is surplus.
+    /// makes it good. A battery has no headroom: it gives what its level has. What is left
+    /// is unmet, what is too much is surplus.
     fn balance(&mut self, entries: &[f64], raising: bool) {
         let shape = self.model.data.shape;
         for y in 0..shape.years {
@@ -326,6 +369,8 @@ impl Mending<'_> {
                 for g in 0..shape.plants {
                     self.raise(6, 1000, Column::Reserve, &[y, g, s]);
                     self.raise(5, 1000, Column::Gen, &[y, g, s]);
+                    self.raise(22, 1, Column::Charge, &[y, g, s]);
+                    self.raise(25, 1, Column::Level, &[y, g, s]);
                 }
                 for z in 0..shape.zones {
                     for z2 in 0..shape.zones {

@@ -1,10 +1,12 @@
-//! Document 01, "The twenty families": their order, index sets and equality
-//! flags, and the row numbers. The rows themselves are in `model`.
+//! Document 01, "The twenty families", and those that requests append: their
+//! order, index sets and equality flags, and the row numbers. The rows themselves
+//! are in `model`.
 
 use crate::shape::{describe, Axis, Shape};
 
-/// One line of the fixed table of families. `number` is document 01's place
-/// in the list, `equation` the number in source document 000.
+/// One line of the fixed table of families. `number` is the place in the list,
+/// `equation` the number in source document 000; family 21 is (42) in a day's first
+/// hour and (43) in the others, and has the second.
 pub struct Family {
     pub number: usize,
     pub equation: u32,
@@ -41,7 +43,7 @@ const fn family(
     }
 }
 
-pub const FAMILY_COUNT: usize = 20;
+pub const FAMILY_COUNT: usize = 25;
 
 /// Requests append families at the end.
 pub const FAMILIES: [Family; FAMILY_COUNT] = [
@@ -65,6 +67,11 @@ pub const FAMILIES: [Family; FAMILY_COUNT] = [
     family(18, 64, "capital", ONE, false),
     family(19, 66, "zone emissions", YZ, false),
     family(20, 68, "system emissions", Y, false),
+    family(21, 43, "battery level", YGS, true),
+    family(22, 45, "charge limit", YGS, false),
+    family(23, 47, "charge rise", YGS, false),
+    family(24, 48, "charge fall", YGS, false),
+    family(25, 46, "level limit", YGS, false),
 ];
 
 /// Where each family's rows start.
@@ -101,7 +108,13 @@ impl RowLayout {
         self.starts[family - 1] + self.shape.place(axes, indices)
     }
 
-    /// The family of a row number, 1..20.
+    /// The numbers of a family's rows.
+    pub fn of_family(&self, family: usize) -> std::ops::Range<usize> {
+        let start = self.starts[family - 1];
+        start..start + self.shape.size(FAMILIES[family - 1].axes)
+    }
+
+    /// The family of a row number, from 1.
     pub fn family(&self, number: usize) -> Option<usize> {
         if number >= self.count {
             return None;

@@ -7,12 +7,12 @@
 //!   below 2^60 (gen, W·Dur·(GenCost + Tax·E)), a constant below 2^62
 //!   (family 18, 10^9·MaxCapital);
 //! - an entry is below 2^32, a multiplier at most 2^40, N at most 2^10;
-//! - there are below 2^20 columns and below 2^20 rows.
+//! - there are below 2^20 columns and below 2^21 rows.
 //!
 //! So a row's sum is below 2^(47+32+20) + 2^(10+62), the cost below
-//! 2^(60+32+20) and a column's sum below 2^(40+47+20). Family 18 has one row
+//! 2^(60+32+20) and a column's sum below 2^(40+47+21). Family 18 has one row
 //! and every other constant is below 2^47 (family 4, 1000·Σ TL), so a sum of
-//! N·m·k is below 2^(10+40+62) + 2^(10+40+47+20). All are below 2^118.
+//! N·m·k is below 2^(10+40+62) + 2^(10+40+47+21). All are below 2^119.
 
 /// The largest sum that is on scale.
 pub const LIMIT: u128 = (1 << 62) - 1;
@@ -37,7 +37,7 @@ impl SignedSum {
         self.positive > LIMIT || self.negative > LIMIT
     }
 
-    /// The positive less the negative terms; both are below 2^118.
+    /// The positive less the negative terms; both are below 2^119.
     pub fn value(&self) -> i128 {
         self.positive as i128 - self.negative as i128
     }

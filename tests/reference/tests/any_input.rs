@@ -4,8 +4,13 @@ use epm_reference::generator::anything::{any_contents, any_lists, steep};
 use epm_reference::generator::draft::Case;
 use epm_reference::generator::random::Random;
 use epm_reference::generator::shape;
+use epm_reference::refusal::{
+    DATA_LENGTH, ENTRY, OF_ALL_CALLS, OF_CERTIFY, REFUSAL_COUNT, SHAPE, STORAGE,
+};
 use epm_reference::rival::evaluate;
 use epm_reference::{certify, check, post, Refusal};
+
+const OF_DATA: [u32; 4] = [SHAPE, DATA_LENGTH, ENTRY, STORAGE];
 
 /// Every call on one input: each answer is a refusal of the page's table or is
 /// accepted, and the calls agree on what they all test.
@@ -18,14 +23,14 @@ fn answer_all(case: &Case) {
     );
     match checked {
         Err(refusal) => {
-            assert!((1..=8).contains(&refusal.number));
+            assert!(OF_ALL_CALLS.contains(&refusal.number));
             assert_eq!(certified, Err(refusal));
             assert_eq!(posted, Err(refusal));
         }
         Ok(cost) => {
             match certified {
                 Ok(figures) => assert_eq!(figures.0, cost),
-                Err(refusal) => assert!((9..=13).contains(&refusal.number)),
+                Err(refusal) => assert!(OF_CERTIFY.contains(&refusal.number)),
             }
             assert!(posted == Ok(cost) || posted == Err(Refusal::at(14, 0)));
         }
@@ -54,7 +59,7 @@ fn random_contents_of_the_right_length() {
         // Data in range is never refused as data.
         let refused = check(&case.data, case.scale, &case.plan).err();
         assert!(
-            refused.is_none_or(|refusal| refusal.number >= 6),
+            refused.is_none_or(|refusal| !OF_DATA.contains(&refusal.number)),
             "{refused:?}"
         );
     }
@@ -63,7 +68,7 @@ fn random_contents_of_the_right_length() {
 #[test]
 fn largest_coefficients_against_largest_multipliers() {
     let mut random = Random::new(3);
-    let mut numbers = [0_u64; 16];
+    let mut numbers = [0_u64; 1 + REFUSAL_COUNT];
     for _ in 0..400 {
         let case = steep(&mut random);
         match certify(&case.data, case.scale, &case.plan, &case.multipliers) {
@@ -72,7 +77,8 @@ fn largest_coefficients_against_largest_multipliers() {
         }
     }
     println!("refusals {numbers:?}");
-    assert!(numbers[..9].iter().all(|&count| count == 0));
+    let met = |number: &u32| numbers[*number as usize] > 0;
+    assert!(!OF_ALL_CALLS.iter().any(met));
     assert!(numbers[11] > 0);
     assert!(numbers[13] > 0);
 }

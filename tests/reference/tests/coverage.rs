@@ -1,5 +1,6 @@
 //! The generated inputs reach every refusal, every family as the first broken
-//! row and every table of columns as the first underpriced.
+//! row and as the first multiplier out of range, every table of columns as the first
+//! underpriced and every range of the data.
 
 use epm_reference::coverage::measure;
 

@@ -7,9 +7,12 @@ use epm_reference::generator::draft::Case;
 use epm_reference::generator::frames::{join, plain_lines};
 use epm_reference::generator::stations::stations;
 use epm_reference::generator::{case, sound_case};
+use epm_reference::program::{read_lines, Input};
 use epm_reference::rows::RowLayout;
 use epm_reference::run;
 use epm_reference::shape::Shape;
+
+const BATTERY: &[u8] = include_bytes!("../../../examples/battery.txt");
 
 /// The bytes that the program has room for (`crates/explain`).
 const ROOM: usize = 1024;
@@ -91,8 +94,8 @@ fn refusals_of_the_data() {
         "R 1 6\nShape: entry 6 of DATA, the number of years: it is 0 and must be from 1 to 10\n"
     );
     assert_eq!(
-        station(|case| case.data.truncate(48)),
-        "R 2 49\nData length: DATA has 48 numbers and must have 49\n"
+        station(|case| case.data.truncate(51)),
+        "R 2 52\nData length: DATA has 51 numbers and must have 52\n"
     );
     assert_eq!(
         explained(b""),
@@ -101,6 +104,22 @@ fn refusals_of_the_data() {
     assert_eq!(
         station(|case| case.data[8] = 21),
         "R 3 8\nEntry: entry 8 of DATA, V, year 1: it is 21 and must be from 1 to 20\n"
+    );
+    assert_eq!(
+        station(|case| case.data[49] = 2),
+        "R 3 49\nEntry: entry 49 of DATA, battery, plant 1: it is 2 and must be from 0 to 1\n"
+    );
+    assert_eq!(
+        station(|case| case.data[50] = 1001),
+        "R 3 50\nEntry: entry 50 of DATA, efficiency, plant 1: it is 1001 and must be from 0 to 1000\n"
+    );
+    let sun_battery = station(|case| {
+        case.data[14] = 1;
+        case.data[49] = 1;
+    });
+    assert_eq!(
+        sun_battery,
+        "R 16 0\nStorage: plant 1 is a battery and has VRE set\n"
     );
 }
 
@@ -112,7 +131,7 @@ fn refusals_of_the_plan() {
     );
     assert_eq!(
         station(|case| case.plan.truncate(9)),
-        "R 5 10\nPlan length: PLAN has 9 numbers and must have 10\n"
+        "R 5 12\nPlan length: PLAN has 9 numbers and must have 12\n"
     );
     // N·10^9·MaxCapital of the capital row; the entries before it are N times the station's.
     let off_scale = station(|case| {
@@ -125,7 +144,7 @@ fn refusals_of_the_plan() {
     // All demand unmet at scale 2, at 10^5·(2^32 − 1) a kW.
     let dear = station(|case| {
         case.scale = 2;
-        case.plan = vec![20, 0, 0, 0, 0, 0, 16_000, 0, 0, 0];
+        case.plan = vec![20, 0, 0, 0, 0, 0, 16_000, 0, 0, 0, 0, 0];
         case.data[43] = u32::MAX;
     });
     assert_eq!(
@@ -138,7 +157,7 @@ fn refusals_of_the_plan() {
 fn refusals_of_the_multipliers() {
     assert_eq!(
         station(|case| case.multipliers.truncate(19)),
-        "R 9 20\nMultiplier count: DUAL has 19 numbers and must have 20\n"
+        "R 9 25\nMultiplier count: DUAL has 19 numbers and must have 25\n"
     );
     assert_eq!(station(|case| case.multipliers[0] = i64::MIN), "R 10 0\nMultiplier: row 0, equation (14) demand balance, year 1, zone 1, season 1, day 1, hour 1: it is -9223372036854775808 and must be from -2^40 to 2^40\n");
     assert_eq!(station(|case| case.multipliers[11] = (1 << 40) + 1), "R 10 11\nMultiplier: row 11, equation (34) capacity balance, year 1, plant 1: it is 1099511627777 and must be from -2^40 to 2^40\n");
@@ -231,6 +250,44 @@ fn indices_of_rows() {
         from(&lines, "equation"),
         "equation (68) system emissions, year 2: it is -1 and must be from 0 to 2^40"
     );
+}
+
+/// The battery example of docs/FORMAT.md with a change, and the second line.
+fn battery(change: impl FnOnce(&mut Input)) -> String {
+    let mut input = read_lines(BATTERY).expect("no Frame");
+    change(&mut input);
+    let lines = said(&Case {
+        scale: input.scale(),
+        data: input.data,
+        plan: input.plan,
+        multipliers: input.multipliers,
+        ..Case::default()
+    });
+    lines.lines().nth(1).expect("two lines").to_string()
+}
+
+#[test]
+fn rows_and_columns_of_a_battery() {
+    let level = battery(|input| input.plan[89] = 4000);
+    assert_eq!(level, "Broken: row 150, equation (43) battery level, year 1, plant 4, season 1, day 1, hour 1: its positive terms come to 4000, its negative terms to 3200, and the two must be equal");
+    let full = battery(|input| input.data[142] = 3999);
+    assert_eq!(full, "Broken: row 215, equation (46) level limit, year 1, plant 4, season 1, day 1, hour 2: its positive terms come to 3999, its negative terms to 4000, and the first must not be less");
+    let charge = battery(|input| input.multipliers[166] -= 1);
+    assert_eq!(charge, "Underpriced: column 73, charge, year 1, plant 4, season 1, day 1, hour 1: its terms m*a come to 14600000000 above zero and 14599999999 below, its price is 0, so it is underpriced by 1");
+    let held = battery(|input| input.multipliers[215] = 0);
+    assert_eq!(held, "Underpriced: column 90, level, year 1, plant 4, season 1, day 1, hour 2: its terms m*a come to 36500000 above zero and 18250000 below, its price is 0, so it is underpriced by 18250000");
+    for (row, name, least) in [
+        (150, "(43) battery level", "-2^40"),
+        (166, "(45) charge limit", "0"),
+        (182, "(47) charge rise", "0"),
+        (198, "(48) charge fall", "0"),
+        (214, "(46) level limit", "0"),
+    ] {
+        let refused = battery(|input| input.multipliers[row] = i64::MIN);
+        assert_eq!(refused, format!("Multiplier: row {row}, equation {name}, year 1, plant 4, season 1, day 1, hour 1: it is -9223372036854775808 and must be from {least} to 2^40"));
+    }
+    let vre = battery(|input| input.data[29] = 1);
+    assert_eq!(vre, "Storage: plant 4 is a battery and has VRE set");
 }
 
 /// The line of certify comes first, and the program has room for both.

@@ -1,38 +1,54 @@
-//! The examples of docs/FORMAT.md, and the answers that the page names to the first two. Its third
-//! example, two years, is in `rounding.rs`.
+//! The examples of docs/FORMAT.md, and the answers that the page names to all but two years, which
+//! is in `rounding.rs`.
 
 use epm_reference::columns::{Column, ColumnLayout};
-use epm_reference::data::{DataLayout, Table};
-use epm_reference::program::{read_lines, Input};
+use epm_reference::data::{DataLayout, Table, TABLES};
+use epm_reference::program::{answer_line, read_lines, Input};
 use epm_reference::rows::RowLayout;
 use epm_reference::shape::Shape;
 use epm_reference::{certify, check, run, Refusal};
 
 const STATION: &[u8] = include_bytes!("../../../examples/station.txt");
 const TWO_ZONES: &[u8] = include_bytes!("../../../examples/two-zones.txt");
+const BATTERY: &[u8] = include_bytes!("../../../examples/battery.txt");
+const PAGE: &str = include_str!("../../../docs/FORMAT.md");
+
+fn battery() -> Shape {
+    Shape::new([1, 4, 2, 1, 1, 4, 1])
+}
 
 fn two_zones() -> Shape {
     Shape::new([2, 2, 1, 1, 1, 2, 1])
 }
 
-/// The two-zone example, changed, and its answer.
-fn answer(change: impl FnOnce(&mut Input)) -> Result<(u64, u64), Refusal> {
-    let mut input = read_lines(TWO_ZONES).expect("no Frame");
+/// An example, changed, and its answer.
+fn changed(example: &[u8], change: impl FnOnce(&mut Input)) -> Result<(u64, u64), Refusal> {
+    let mut input = read_lines(example).expect("no Frame");
     change(&mut input);
     let scale = input.scale.unwrap_or(1);
     certify(&input.data, scale, &input.plan, &input.multipliers)
+}
+
+/// The two-zone example, changed, and its answer.
+fn answer(change: impl FnOnce(&mut Input)) -> Result<(u64, u64), Refusal> {
+    changed(TWO_ZONES, change)
 }
 
 #[test]
 fn the_examples_are_answered_as_the_page_says() {
     assert_eq!(run(STATION), "A 40000000000 0\n");
     assert_eq!(run(TWO_ZONES), "A 219320800000000 0\n");
+    assert_eq!(run(BATTERY), "A 595600000000 0\n");
 }
 
 #[test]
 fn lengths_of_the_examples() {
     let two_years = Shape::new([2, 4, 2, 1, 1, 6, 2]);
-    for (shape, data, columns, rows) in [(two_zones(), 86, 36, 60), (two_years, 204, 244, 447)] {
+    for (shape, data, columns, rows) in [
+        (battery(), 143, 93, 218),
+        (two_zones(), 92, 44, 80),
+        (two_years, 216, 340, 687),
+    ] {
         assert_eq!(DataLayout::new(shape).length(), data);
         assert_eq!(ColumnLayout::new(shape).count(), columns);
         assert_eq!(RowLayout::new(shape).count(), rows);
@@ -64,6 +80,7 @@ fn first_entries_of_tables_named_on_the_page() {
     assert_eq!(data.index(Table::Tl, &[0, 0, 1, 0]), 67);
     assert_eq!(data.index(Table::Loss, &[0, 0, 1]), 71);
     assert_eq!(data.index(Table::MaxCapital, &[]), 85);
+    assert_eq!(data.index(Table::Battery, &[0]), 86);
 }
 
 #[test]
@@ -94,11 +111,102 @@ fn answers_to_changes_named_on_the_page() {
     let below_zero = |input: &mut Input| input.multipliers[rows.index(15, &[1])] = -1;
     assert_eq!(answer(below_zero), refused(10, rows.index(15, &[1])));
 
-    let short = |input: &mut Input| input.data.truncate(85);
-    assert_eq!(answer(short), refused(2, 86));
+    let short = |input: &mut Input| input.data.truncate(91);
+    assert_eq!(answer(short), refused(2, 92));
 
     let line_within_a_zone = |input: &mut Input| input.data[66] = 1;
     assert_eq!(answer(line_within_a_zone), refused(3, 66));
+}
+
+/// A line of the page's table of changes: a plan, data or multipliers with one thing
+/// changed, and the answer, which the page names beside the change.
+fn battery_answers(words: &str, change: impl FnOnce(&mut Input)) {
+    let line = answer_line(changed(BATTERY, change));
+    let shown = format!("| {words} | `{}` |", line.trim_end());
+    assert!(PAGE.contains(&shown), "the page lacks {shown}");
+}
+
+#[test]
+fn answers_to_changes_of_the_battery_example() {
+    battery_answers("column 89 (level in hour 0) 4000", |input| {
+        input.plan[89] = 4000;
+    });
+    battery_answers("columns 73 and 74 (charge) 5 and 0, column 53 (surplus in hour 1) 1000, column 52 (surplus in hour 0) 0, columns 89 to 92 (level) 4000, 4000, 1000, 0", |input| {
+        input.plan[73..75].copy_from_slice(&[5, 0]);
+        input.plan[52..54].copy_from_slice(&[0, 1000]);
+        input.plan[89..93].copy_from_slice(&[4000, 4000, 1000, 0]);
+    });
+    battery_answers("place 142 (energy capacity) 3999", |input| {
+        input.data[142] = 3999;
+    });
+    battery_answers("row 215's multiplier 0", |input| {
+        input.multipliers[215] = 0;
+    });
+    battery_answers("row 166's multiplier 14599999999", |input| {
+        input.multipliers[166] = 14_599_999_999;
+    });
+    battery_answers("row 166's multiplier −1", |input| {
+        input.multipliers[166] = -1;
+    });
+    battery_answers("row 138's multiplier −1 (family 21, wind)", |input| {
+        input.multipliers[138] = -1;
+    });
+    battery_answers("place 29 (VRE of the battery) 1", |input| {
+        input.data[29] = 1;
+    });
+}
+
+/// Every number that the page prints of the battery example: places with their tables, entries and
+/// multipliers; all entries and multipliers beside them are 0.
+#[test]
+fn the_numbers_of_the_battery_example() {
+    let input = read_lines(BATTERY).expect("no Frame");
+    let data = DataLayout::new(battery());
+    for (table, first, numbers) in [
+        (Table::Vre, 26, vec![1, 0, 0, 0]),
+        (Table::GenCap, 30, vec![10, 8, 8, 4]),
+        (Table::Duration, 9, vec![365; 4]),
+        (Table::Demand, 110, vec![5, 7, 14, 12]),
+        (Table::Battery, 131, vec![0, 0, 0, 1]),
+        (Table::Efficiency, 135, vec![0, 0, 0, 800]),
+        (Table::EnergyCapacity, 139, vec![0, 0, 0, 4000]),
+    ] {
+        let axes = TABLES[table as usize].axes;
+        assert_eq!(data.index(table, &vec![0; axes.len()]), first, "{table:?}");
+        assert_eq!(input.data[first..first + 4], numbers, "{table:?}");
+    }
+    let mut plan = vec![0; input.plan.len()];
+    for (first, entries) in [
+        (0, &[10, 8, 8, 4][..]),
+        (12, &[10, 3, 2, 2, 0, 5, 8, 8, 0, 0, 1, 1, 0, 0, 3, 1]),
+        (52, &[1000]),
+        (73, &[4, 1]),
+        (89, &[3200, 4000, 1000]),
+    ] {
+        plan[first..first + entries.len()].copy_from_slice(entries);
+    }
+    assert_eq!(input.plan, plan);
+    let mut multipliers = vec![0; input.multipliers.len()];
+    for (first, part) in [
+        (1, &[14_600_000, 36_500_000, 36_500_000][..]),
+        (19, &[21_900_000, 21_900_000]),
+        (98, &[14_600_000, 36_500_000, 36_500_000]),
+        (
+            113,
+            &[
+                -8_980_000_000,
+                -35_800_000_000,
+                4_000_000_000,
+                -9_600_000_000,
+            ],
+        ),
+        (150, &[-18_250_000, -18_250_000, -36_500_000, -36_500_000]),
+        (166, &[14_600_000_000]),
+        (215, &[18_250_000]),
+    ] {
+        multipliers[first..first + part.len()].copy_from_slice(part);
+    }
+    assert_eq!(input.multipliers, multipliers);
 }
 
 /// The same plan rounded to whole MW: what comes too much is surplus, in kW.

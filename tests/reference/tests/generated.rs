@@ -1,15 +1,15 @@
 //! The generator's cases answer as their construction says.
 
-use epm_reference::columns::ColumnLayout;
-use epm_reference::data::{read_shape, TABLES};
+use epm_reference::columns::{Column, ColumnLayout, COLUMN_TABLES};
+use epm_reference::data::{read_shape, TABLES, TABLE_COUNT};
 use epm_reference::generator::damage::{
     entry_edges, limits, Damage, Expected, FAMILIES_WITH_LIMIT,
 };
 use epm_reference::generator::draft::{Case, Draft};
 use epm_reference::generator::random::Random;
-use epm_reference::generator::{damaged_case, extremes, optimal, shape, sound_case};
-use epm_reference::refusal::{ENTRY, MULTIPLIER};
-use epm_reference::rows::{RowLayout, FAMILIES};
+use epm_reference::generator::{damaged_case, extremes, optimal, shape, solved, sound_case};
+use epm_reference::refusal::{ENTRY, MULTIPLIER, OF_ALL_CALLS, OF_CERTIFY};
+use epm_reference::rows::{RowLayout, FAMILIES, FAMILY_COUNT};
 use epm_reference::shape::Shape;
 use epm_reference::{certify, check, post, Refusal};
 
@@ -60,12 +60,12 @@ fn zero_multipliers_leave_the_whole_cost_as_gap() {
 }
 
 /// Sound cases use what the law has: every column table is non-zero somewhere,
-/// multipliers of every family are, and families 1 and 12 have both signs.
+/// multipliers of every family are, and the families of equalities have both signs.
 #[test]
 fn sound_cases_are_not_trivial() {
-    let mut columns_used = [0_u64; 10];
-    let mut rows_used = [0_u64; 20];
-    let mut below_zero = [0_u64; 20];
+    let mut columns_used = [0_u64; COLUMN_TABLES];
+    let mut rows_used = [0_u64; FAMILY_COUNT];
+    let mut below_zero = [0_u64; FAMILY_COUNT];
     let mut bounds_above_zero = 0;
     let (mut non_zero, mut all, mut far_from_zero) = (0_u64, 0_u64, 0_u64);
     for seed in 0..SEEDS {
@@ -95,7 +95,10 @@ fn sound_cases_are_not_trivial() {
     println!("not 0: {non_zero} of {all}; bounds above 0: {bounds_above_zero}");
     assert!(columns_used.iter().all(|&count| count > 0));
     assert!(rows_used.iter().all(|&count| count > 0));
-    assert!(below_zero[0] > 0 && below_zero[11] > 0);
+    for family in &FAMILIES {
+        let both_signs = below_zero[family.number - 1] > 0;
+        assert_eq!(both_signs, family.equality, "{}", family.name);
+    }
     assert!(
         non_zero * 2 > all,
         "{non_zero} of {all} multipliers are not 0"
@@ -117,6 +120,36 @@ fn merit_order_has_gap_zero() {
     assert!(costs_above_zero * 2 > SEEDS);
 }
 
+/// The optimum with a battery, by the second implementation's own simplex: the gap is
+/// 0, and each limit of a battery is worth something in some case.
+#[test]
+fn solved_cases_with_a_battery_have_gap_zero() {
+    let mut worth = [0_u64; FAMILY_COUNT];
+    let mut built = 0;
+    for seed in 0..SEEDS {
+        let draft = solved::draft(&mut Random::new(seed));
+        let case = &draft.case;
+        let (cost, gap) = certify_case(case).expect("an optimal case");
+        assert_eq!(gap, 0, "seed {seed}");
+        assert!(cost > 0, "seed {seed}");
+        let battery = (0..draft.shape.plants).find(|&g| draft.is_battery(g));
+        let battery = battery.expect("a battery");
+        let charges = draft.columns.of_table(Column::Charge);
+        assert!(charges.into_iter().any(|column| case.plan[column] > 0));
+        built += u64::from(draft.entry(Column::Build, &[0, battery]) > 0);
+        for family in &FAMILIES {
+            let mut rows = draft.rows.of_family(family.number);
+            let used = rows.any(|row| case.multipliers[row] != 0);
+            worth[family.number - 1] += u64::from(used);
+        }
+    }
+    println!("battery built {built}, families with multipliers {worth:?}");
+    assert!(built > 0);
+    for family in [1, 5, 12, 21, 22, 23, 24, 25] {
+        assert!(worth[family - 1] > 0, "family {family}");
+    }
+}
+
 /// A later shape of full size is made by the same functions.
 #[test]
 fn generator_is_a_function_of_its_seed() {
@@ -131,7 +164,7 @@ fn generator_is_a_function_of_its_seed() {
 /// step further the family is broken first.
 #[test]
 fn limits_hold_at_their_value_and_break_one_past_it() {
-    let mut tried = [0_u64; 20];
+    let mut tried = [0_u64; FAMILY_COUNT];
     for seed in 0..SEEDS {
         let case = sound(seed);
         let draft = Draft::of(case.clone());
@@ -194,14 +227,14 @@ fn damages_give_the_refusal_they_were_made_for() {
                 );
             };
             match expected.number {
-                1..=8 => {
+                number if OF_ALL_CALLS.contains(&number) => {
                     told(check_case(case).expect_err("check"));
                     told(certify_case(case).expect_err("certify"));
                     let (answer, board) = post_case(case);
                     told(answer.expect_err("post"));
                     assert_eq!(board, case.board);
                 }
-                9..=13 => {
+                number if OF_CERTIFY.contains(&number) => {
                     told(certify_case(case).expect_err("certify"));
                     let cost = check_case(case).expect("a sound plan");
                     assert_eq!(post_case(case).0, Ok(cost));
@@ -262,10 +295,10 @@ fn entry_ranges_end_where_the_page_says() {
     }
     let ranged = tried.iter().filter(|&&count| count > 0).count();
     println!("tables with a range tried {ranged}");
-    // All 42 tables but ResCost, Annuity, FixedOM, GenCost, Demand, SRes, the two
-    // caps, MaxFuel, BuildLimit, VOLL, SurplusPenalty, RESVoLL, SRESVoLL and
-    // MaxCapital.
-    assert_eq!(ranged, 42 - 15);
+    // All tables but ResCost, Annuity, FixedOM, GenCost, Demand, SRes, the two
+    // caps, MaxFuel, BuildLimit, VOLL, SurplusPenalty, RESVoLL, SRESVoLL,
+    // MaxCapital and energy capacity.
+    assert_eq!(ranged, TABLE_COUNT - 16);
 }
 
 /// Multipliers at ±2^40 are in range, one past is not.
@@ -346,7 +379,7 @@ fn post_tests_year_and_start_last() {
         }
         // A broken plan answers its own refusal, whatever the year.
         case.year = usize::MAX;
-        let unmet = case.plan.len() - shape.years * shape.zones * (3 * shape.slices() + 1);
+        let unmet = ColumnLayout::new(shape).index(Column::Unmet, &[0, 0, 0]);
         case.plan[unmet] += 1;
         assert_eq!(
             post_case(&case).0,

@@ -4,7 +4,7 @@
 use epm_reference::certify;
 use epm_reference::generator::draft::Case;
 use epm_reference::generator::random::Random;
-use epm_reference::generator::{optimal, shape, sound_case};
+use epm_reference::generator::{optimal, shape, solved, sound_case};
 use epm_reference::model::Model;
 use epm_reference::rival::{evaluate, within_certificate};
 use epm_reference::rival_count::RivalCount;
@@ -33,6 +33,7 @@ fn count_rivals(seed: u64, mut case: impl FnMut(&mut Random, u64) -> Case) -> Ri
 fn no_rival_is_below_a_drawn_certificate() {
     let count = count_rivals(31, |random, seed| sound_case(shape(random), seed));
     assert!(count.cheaper_than_the_plan > 0);
+    assert!(count.charging_otherwise > 0);
     assert!(count.bounded_above_zero > 0);
     assert!(count.wide_entries > 0);
 }
@@ -44,6 +45,15 @@ fn no_rival_is_below_an_optimal_certificate() {
     assert_eq!(count.cheaper_than_the_plan, 0);
     assert!(count.at_the_bound > 0);
     assert!(count.infeasible > 0);
+}
+
+/// The same with a battery, beside rivals whose battery charges as it likes.
+#[test]
+fn no_rival_is_below_an_optimal_certificate_with_a_battery() {
+    let count = count_rivals(34, |_, seed| solved::draft(&mut Random::new(seed)).case);
+    assert_eq!(count.cheaper_than_the_plan, 0);
+    assert!(count.charging_otherwise > 0);
+    assert!(count.at_the_bound > 0);
 }
 
 /// A rival whose balance is off by one Mth of a kW is not feasible.

@@ -6,12 +6,10 @@ use epm_reference::check;
 use epm_reference::columns::{Column, ColumnLayout, COLUMNS};
 use epm_reference::data::{Data, DataLayout, Table, TABLES};
 use epm_reference::generator::random::Random;
-use epm_reference::generator::{shape, sound_case};
+use epm_reference::generator::{shape, sound_case, LARGEST_COUNTS};
 use epm_reference::model::Model;
 use epm_reference::rows::{RowLayout, FAMILIES};
 use epm_reference::shape::Shape;
-
-const FULL: [usize; 7] = [8, 32, 8, 4, 4, 24, 10];
 
 fn shapes(count: u64) -> Vec<Shape> {
     let mut random = Random::new(11);
@@ -33,11 +31,12 @@ fn lists_of_tables_are_in_the_order_of_their_numbers() {
     }
 }
 
-/// The equation numbers and equality flags of document 01's list.
+/// The equation numbers and equality flags of document 01's list and of request (i).
 #[test]
 fn families_have_the_equations_of_the_page() {
     let equations = [
-        14, 15, 19, 21, 22, 23, 24, 25, 26, 27, 28, 34, 37, 61, 55, 58, 62, 64, 66, 68,
+        14, 15, 19, 21, 22, 23, 24, 25, 26, 27, 28, 34, 37, 61, 55, 58, 62, 64, 66, 68, 43, 45, 47,
+        48, 46,
     ];
     assert_eq!(FAMILIES.each_ref().map(|family| family.equation), equations);
     let equalities: Vec<usize> = FAMILIES
@@ -45,22 +44,30 @@ fn families_have_the_equations_of_the_page() {
         .filter(|family| family.equality)
         .map(|family| family.number)
         .collect();
-    assert_eq!(equalities, [1, 12]);
+    assert_eq!(equalities, [1, 12, 21]);
 }
 
 #[test]
 fn largest_shape_has_its_numbers() {
-    let shape = Shape::new(FULL);
-    assert_eq!(RowLayout::new(shape).count(), 1_047_883);
-    assert_eq!(ColumnLayout::new(shape).count(), 584_720);
+    let shape = Shape::new(LARGEST_COUNTS);
+    // Document 01's, and by request (i) five families and two tables of [y,g,s].
+    let by_plant_and_slice = 10 * 32 * 384;
+    assert_eq!(
+        RowLayout::new(shape).count(),
+        1_047_883 + 5 * by_plant_and_slice
+    );
+    assert_eq!(
+        ColumnLayout::new(shape).count(),
+        584_720 + 2 * by_plant_and_slice
+    );
 }
 
 #[test]
 fn one_of_each_has_its_numbers() {
     let shape = Shape::new([1; 7]);
-    assert_eq!(DataLayout::new(shape).length(), 49);
-    assert_eq!(ColumnLayout::new(shape).count(), 10);
-    assert_eq!(RowLayout::new(shape).count(), 20);
+    assert_eq!(DataLayout::new(shape).length(), 52);
+    assert_eq!(ColumnLayout::new(shape).count(), 12);
+    assert_eq!(RowLayout::new(shape).count(), 25);
 }
 
 /// Walks each index set with the last index fastest and counts.
@@ -191,6 +198,13 @@ fn load_by_column(data: &Data, m: &dyn Fn(usize, &[usize]) -> i128, column: usiz
                 if data.at(Table::Vre, &[g]) == 1 {
                     load += data.at(Table::Profile, &[g, s]) * m(11, &[y, g, s]);
                 }
+                if data.at(Table::Battery, &[g]) == 1 {
+                    load += m(22, &[y, g, s]);
+                    if shape.hour_of(s) != 0 {
+                        load += data.at(Table::RampDn, &[g]) * m(23, &[y, g, s]);
+                        load += data.at(Table::RampUp, &[g]) * m(24, &[y, g, s]);
+                    }
+                }
             }
             load += m(12, &[y, g]);
             if y < last_year {
@@ -245,6 +259,9 @@ fn load_by_column(data: &Data, m: &dyn Fn(usize, &[usize]) -> i128, column: usiz
             load -= 1000 * hours * m(10, &[y, g, shape.season_of(s)]);
             let fuel = data.fuel_of(g);
             load -= hours * data.at(Table::HeatRate, &[g]) * m(17, &[y, z, fuel]);
+            if data.at(Table::Battery, &[g]) == 1 {
+                load += 1000 * m(21, &[y, g, s]);
+            }
             let emitted = hours * data.at(Table::Emission, &[g]);
             load - emitted * (m(19, &[y, z]) + m(20, &[y]))
         }
@@ -268,6 +285,34 @@ fn load_by_column(data: &Data, m: &dyn Fn(usize, &[usize]) -> i128, column: usiz
         Column::Surplus => -m(1, &i),
         Column::SpinShort => m(3, &i),
         Column::FirmShort => m(4, &i),
+        Column::Charge => {
+            let (y, g, s) = (i[0], i[1], i[2]);
+            let mut load = -1000 * m(1, &[y, data.zone_of(g), s]) - m(22, &[y, g, s]);
+            if data.at(Table::Battery, &[g]) == 0 {
+                return load;
+            }
+            load -= data.at(Table::Efficiency, &[g]) * m(21, &[y, g, s]);
+            if shape.hour_of(s) > 0 {
+                load += 1000 * (m(24, &[y, g, s]) - m(23, &[y, g, s]));
+            }
+            if shape.hour_of(s) + 1 < shape.hours {
+                load += 1000 * (m(23, &[y, g, s + 1]) - m(24, &[y, g, s + 1]));
+            }
+            load
+        }
+        Column::Level => {
+            let (y, g, s) = (i[0], i[1], i[2]);
+            let limit = m(25, &[y, g, s]);
+            if data.at(Table::Battery, &[g]) == 0 {
+                return -limit;
+            }
+            // What a day's last hour leaves is lost.
+            let next = match shape.hour_of(s) + 1 < shape.hours {
+                true => m(21, &[y, g, s + 1]),
+                false => 0,
+            };
+            m(21, &[y, g, s]) - next - limit
+        }
     }
 }
 
@@ -339,6 +384,7 @@ fn constant(data: &Data, family: usize, i: &[usize]) -> i128 {
         18 => 1_000_000_000 * data.at(Table::MaxCapital, &[]),
         19 => 1000 * data.at(Table::ZoneCap, i),
         20 => 1000 * data.at(Table::SystemCap, i),
+        25 if data.at(Table::Battery, &i[1..2]) == 1 => data.at(Table::EnergyCapacity, &i[1..2]),
         _ => 0,
     }
 }
@@ -362,6 +408,7 @@ fn price(data: &Data, column: Column, i: &[usize]) -> i128 {
         Column::SpinShort => hours(2) * data.at(Table::SresVoll, &[]),
         Column::FirmShort => data.at(Table::ResVoll, &[]),
         Column::Build | Column::Retire | Column::Trans => 0,
+        Column::Charge | Column::Level => 0,
     };
     weight * mills
 }

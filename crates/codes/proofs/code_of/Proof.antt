@@ -94,6 +94,12 @@ enum-known-refusal-11 c = search needs
 at-requires-15 : tie.Need-at-requires-15
 at-requires-15 c κs = search needs
 
+enum-known-refusal-12 : tie.Need-enum-known-refusal-12
+enum-known-refusal-12 c = search needs
+
+at-requires-16 : tie.Need-at-requires-16
+at-requires-16 c κs = search needs
+
 returns : tie.Need-returns
 unfolding codeOf
 returns c = c .at .ensures ∙ rw (c .before .before .refusal .given .1)
@@ -154,6 +160,10 @@ returns-15 : tie.Need-returns-15
 unfolding codeOf
 returns-15 c = c .at15 .ensures ∙ rw (c .before .before .refusal11 .given .1)
 
+returns-16 : tie.Need-returns-16
+unfolding codeOf
+returns-16 c = c .at16 .ensures ∙ rw (c .before .before .refusal12 .given .1)
+
 pub code-of-spec : {M : Type 1} → statement M
 code-of-spec =
     tie.close
@@ -188,6 +198,8 @@ code-of-spec =
     at-requires-14
     enum-known-refusal-11
     at-requires-15
+    enum-known-refusal-12
+    at-requires-16
     returns
     returns-2
     returns-3
@@ -202,4 +214,5 @@ code-of-spec =
     returns-12
     returns-13
     returns-14
-    returns-15)
+    returns-15
+    returns-16)

@@ -38,8 +38,13 @@ shortfall-column-requires-2 : tie.Need-shortfall-column-requires-2
 shortfall-column-requires-2 c κs = zone-row 8 (c .match .keys9) (c .before .before .pre) 2 (omega arith) refl (omega arith)
 
 shortfall-column-requires-3 : tie.Need-shortfall-column-requires-3
-shortfall-column-requires-3 c κs =
-    let p = c .before .before .pre in zone-row 9 (last-arm (columnKindCount - 1) (column-inside _ (p .1) .0) (c .match .rest)) p 3 (omega arith) refl (omega arith)
+shortfall-column-requires-3 c κs = zone-row 9 (c .match .keys10) (c .before .before .pre) 3 (omega arith) refl (omega arith)
+
+charge-column-requires : tie.Need-charge-column-requires
+charge-column-requires c κs = by-slice 10 (c .match .keys11) (c .before .before .pre)
+
+level-column-requires : tie.Need-level-column-requires
+level-column-requires c κs = let p = c .before .before .pre in by-slice 11 (last-arm (columnKindCount - 1) (column-inside _ (p .1) .0) (c .match .rest)) p
 
 returns : tie.Need-returns
 unfolding standing⁺ standing⁻
@@ -81,8 +86,18 @@ returns-10 : tie.Need-returns-10
 unfolding standing⁺ standing⁻
 returns-10 c =
     let p = c .before .before .before .pre in
-    let e = last-arm (columnKindCount - 1) (column-inside _ (p .1) .0) (c .before .match .rest) in
+    let e = c .before .match .keys10 in
     column-is 9 e p (c .shortfall-column3 .ensures ∙ rw (only-zero (own-indices 9 e p .slice)))
+
+returns-11 : tie.Need-returns-11
+unfolding standing⁺ standing⁻
+returns-11 c = column-is 10 (c .before .match .keys11) (c .before .before .before .pre) (c .charge-column .ensures)
+
+returns-12 : tie.Need-returns-12
+unfolding standing⁺ standing⁻
+returns-12 c =
+    let p = c .before .before .before .pre in
+    column-is 11 (last-arm (columnKindCount - 1) (column-inside _ (p .1) .0) (c .before .match .rest)) p (c .level-column .ensures)
 
 pub column-sums-spec : {M : Type 1} → statement M
 column-sums-spec =
@@ -98,6 +113,8 @@ column-sums-spec =
     surplus-column-requires
     shortfall-column-requires-2
     shortfall-column-requires-3
+    charge-column-requires
+    level-column-requires
     returns
     returns-2
     returns-3
@@ -107,4 +124,6 @@ column-sums-spec =
     returns-7
     returns-8
     returns-9
-    returns-10)
+    returns-10
+    returns-11
+    returns-12)

@@ -23,13 +23,13 @@ table-starts-requires : tie.Need-table-starts-requires
 table-starts-requires c κs =
     rw (c .counts-of .ensures) (passed-counts _ (outcome-fine _ (sym (c .before .before .before .test-head .ensures) ∙ c .before .enum-told2 .given .1)))
 
-test-entries-requires : tie.Need-test-entries-requires
-test-entries-requires c κs =
+test-tables-requires : tie.Need-test-tables-requires
+test-tables-requires c κs =
     passed-tables _ (outcome-fine _ (sym (c .before .before .before .before .before .test-head .ensures) ∙ c .before .before .before .enum-told2 .given .1)) _ (c .before .before .counts-of .ensures) (c .before .table-starts .ensures .1)
 
 returns-2 : tie.Need-returns-2
 returns-2 c =
-    rw (data-faults _) (went-on _ _ (outcome-fine _ (sym (c .before .before .before .before .before .before .test-head .ensures) ∙ c .before .before .before .before .enum-told2 .given .1)) (c .test-entries .ensures))
+    rw (data-faults _) (went-on _ _ (outcome-fine _ (sym (c .before .before .before .before .before .before .test-head .ensures) ∙ c .before .before .before .before .enum-told2 .given .1)) (c .test-tables .ensures))
 
 pub test-data-spec : {M : Type 1} → statement M
 test-data-spec =
@@ -41,5 +41,5 @@ test-data-spec =
     enum-told-2
     counts-of-requires
     table-starts-requires
-    test-entries-requires
+    test-tables-requires
     returns-2)

@@ -82,7 +82,27 @@ returns-19 c = rw (c .match .keys19)
 
 returns-20 : tie.Need-returns-20
 unfolding familyOf
-returns-20 c = rw (last-arm (familyCount - 1) (c .before .pre) (c .match .rest))
+returns-20 c = rw (c .match .keys20)
+
+returns-21 : tie.Need-returns-21
+unfolding familyOf
+returns-21 c = rw (c .match .keys21)
+
+returns-22 : tie.Need-returns-22
+unfolding familyOf
+returns-22 c = rw (c .match .keys22)
+
+returns-23 : tie.Need-returns-23
+unfolding familyOf
+returns-23 c = rw (c .match .keys23)
+
+returns-24 : tie.Need-returns-24
+unfolding familyOf
+returns-24 c = rw (c .match .keys24)
+
+returns-25 : tie.Need-returns-25
+unfolding familyOf
+returns-25 c = rw (last-arm (familyCount - 1) (c .before .pre) (c .match .rest))
 
 pub set-of-spec : {M : Type 1} → statement M
 set-of-spec =
@@ -107,4 +127,9 @@ set-of-spec =
     returns-17
     returns-18
     returns-19
-    returns-20)
+    returns-20
+    returns-21
+    returns-22
+    returns-23
+    returns-24
+    returns-25)

@@ -1,3 +1,4 @@
+use Rattle.sentences.proofs.Laws.{plant-low}
 use Rattle.explanations.specs.Answers.{bodyWords}
 use borrow.Author.Needs.{needs}
 use Rattle.explanations.proofs.say_body.Statement.{statement}
@@ -116,6 +117,13 @@ enum-known-refusal-11 c = search needs
 say-frame-requires : tie.Need-say-frame-requires
 say-frame-requires c κs = search needs
 
+enum-known-refusal-12 : tie.Need-enum-known-refusal-12
+enum-known-refusal-12 c = search needs
+
+say-storage-requires : tie.Need-say-storage-requires
+say-storage-requires c κs =
+    (search needs, plant-low _ _ (rw (c .before .before .refusal12 .given .1) at (c .before .before .before .before .before .before .pre .1)))
+
 returns : tie.Need-returns
 unfolding bodyWords
 returns c = rw (c .before .before .before .refusal .given .1) (c .say-shape .ensures)
@@ -176,6 +184,10 @@ returns-15 : tie.Need-returns-15
 unfolding bodyWords
 returns-15 c = rw (c .before .before .before .refusal11 .given .1) (c .say-frame .ensures)
 
+returns-16 : tie.Need-returns-16
+unfolding bodyWords
+returns-16 c = rw (c .before .before .before .refusal12 .given .1) (c .say-storage .ensures)
+
 pub say-body-spec : {M : Type 1} → statement M
 say-body-spec =
     tie.close
@@ -216,6 +228,8 @@ say-body-spec =
     say-requires-3
     enum-known-refusal-11
     say-frame-requires
+    enum-known-refusal-12
+    say-storage-requires
     returns
     returns-2
     returns-3
@@ -230,4 +244,5 @@ say-body-spec =
     returns-12
     returns-13
     returns-14
-    returns-15)
+    returns-15
+    returns-16)

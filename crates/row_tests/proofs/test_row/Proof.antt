@@ -15,8 +15,8 @@ verdict-requires c κs = search needs
 
 returns : tie.Need-returns
 returns c =
-    let a = c .before .before .before .before .before .before .args in
-    let p = c .before .before .before .before .before .before .pre in
+    let a = c .before .before .before .before .before .before .before .before .args in
+    let p = c .before .before .before .before .before .before .before .before .pre in
     c .verdict .ensures ∙ verdict-is _ _ _ (indexOf (a .p)) (c .before .row-sides .ensures) (p .1 .1 .1 .0)
     (p .1 .1 .1 .1 ∙ ap (λ (c : Counts). number (rowBoxes c) (indexOf (a .p))) (sym (p .0 .tablesAt .counts)))
 

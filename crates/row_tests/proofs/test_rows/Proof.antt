@@ -10,6 +10,7 @@ use Rattle.tables.specs.Layout.{planEntry}
 use Rattle.tables.proofs.Laws.{small}
 use Rattle.tables.proofs.Steps.{Going, Walked, ofSecond, ofFirst, ofYear, yearMembers, none, more, turn, walked-none, walked-more, walked-all}
 use Rattle.tables.proofs.Steps.{member-number, member-below, stopped, outcome-fine, outcome-fails}
+use Rattle.parts.specs.Years.{genKind, reserveKind, chargeKind, levelKind}
 use Rattle.parts.proofs.Parts.{places-are, part-asked}
 use Rattle.rows.proofs.Readiness.{ready}
 use Rattle.row_tests.proofs.Steps.{box-is, inside-is, year-below, family-below, families-end, rows-fit, answered}
@@ -19,27 +20,27 @@ use Rattle.row_tests.proofs.test_rows.Tie as tie
 
 -- Each loop's invariant says what its own level has passed, from the row where it began; a measure is the turns that are left.
 abbrev Inv-loop4 : tie.InvT-loop4
-Inv-loop4 «data» plan energy tables-at columns-at c scale places answer₀ row₀ k f b y outputs reserves i j s₀ y-end i-end j-end s-end answer row s =
+Inv-loop4 «data» plan energy tables-at columns-at c scale places answer₀ row₀ k f b y outputs reserves charges levels i j s₀ y-end i-end j-end s-end answer row s =
     Going (λ s. rowFault (read «data») scale (planEntry c plan) (index k y i j s)) (b .slices) 1 row₀ s row answer
 
 abbrev μ-loop4 : tie.MeasureT-loop4
-μ-loop4 «data» plan energy tables-at columns-at c scale places answer₀ row₀ k f b y outputs reserves i j s₀ y-end i-end j-end s-end answer row s =
+μ-loop4 «data» plan energy tables-at columns-at c scale places answer₀ row₀ k f b y outputs reserves charges levels i j s₀ y-end i-end j-end s-end answer row s =
     b .slices - s
 
 abbrev Inv-loop3 : tie.InvT-loop3
-Inv-loop3 «data» plan energy tables-at columns-at c scale places answer₀ row₀ k f b y outputs reserves i j₀ y-end i-end j-end answer row j =
+Inv-loop3 «data» plan energy tables-at columns-at c scale places answer₀ row₀ k f b y outputs reserves charges levels i j₀ y-end i-end j-end answer row j =
     Going (λ j. ofSecond (rowFault (read «data») scale (planEntry c plan)) b k y i j) (b .seconds) (b .slices) row₀ j row answer
 
 abbrev μ-loop3 : tie.MeasureT-loop3
-μ-loop3 «data» plan energy tables-at columns-at c scale places answer₀ row₀ k f b y outputs reserves i j₀ y-end i-end j-end answer row j =
+μ-loop3 «data» plan energy tables-at columns-at c scale places answer₀ row₀ k f b y outputs reserves charges levels i j₀ y-end i-end j-end answer row j =
     b .seconds - j
 
 abbrev Inv-loop2 : tie.InvT-loop2
-Inv-loop2 «data» plan energy tables-at columns-at c scale places answer₀ row₀ k f b y outputs reserves i₀ y-end i-end answer row i =
+Inv-loop2 «data» plan energy tables-at columns-at c scale places answer₀ row₀ k f b y outputs reserves charges levels i₀ y-end i-end answer row i =
     Going (λ i. ofFirst (rowFault (read «data») scale (planEntry c plan)) b k y i) (b .firsts) (b .seconds * b .slices) row₀ i row answer
 
 abbrev μ-loop2 : tie.MeasureT-loop2
-μ-loop2 «data» plan energy tables-at columns-at c scale places answer₀ row₀ k f b y outputs reserves i₀ y-end i-end answer row i =
+μ-loop2 «data» plan energy tables-at columns-at c scale places answer₀ row₀ k f b y outputs reserves charges levels i₀ y-end i-end answer row i =
     b .firsts - i
 
 abbrev Inv-loop : tie.InvT-loop
@@ -100,7 +101,7 @@ year-part-requires c κs =
     let c8 = c4 .before .before .before .before in
     let p = c8 .before .before .before .pre in
     let hy = year-below _ (c4 .before .walk-test .taken) (c4 .family-at .ensures) (c .before .before .before .box-of .ensures .0) (p .0 .counted) (c .before .loop-test .taken) in
-    part-asked (p .0 .counted) (p .1 .1 .0) hy (places-are (c8 .before .before .before .args .c) (c8 .slices-of .ensures .0)) 3 (omega arith) refl
+    part-asked (p .0 .counted) (p .1 .1 .0) hy (places-are (c8 .before .before .before .args .c) (c8 .slices-of .ensures .0)) genKind (omega arith) refl
 
 element-copy-out-year-part-2 : here tie.Need-element-copy-out-year-part-2
 element-copy-out-year-part-2 c = search needs
@@ -112,10 +113,35 @@ year-part-requires-2 c κs =
     let c12 = c8 .before .before .before .before in
     let p = c12 .before .pre in
     let hy = year-below _ (c4 .before .before .before .walk-test .taken) (c4 .before .before .family-at .ensures) (c4 .before .box-of .ensures .0) (p .0 .counted) (c .before .before .before .loop-test .taken) in
-    part-asked (p .0 .counted) (p .1 .1 .0) hy (places-are (c12 .before .args .c) (c8 .before .before .slices-of .ensures .0)) 4 (omega arith) refl
+    part-asked (p .0 .counted) (p .1 .1 .0) hy (places-are (c12 .before .args .c) (c8 .before .before .slices-of .ensures .0)) reserveKind (omega arith) refl
+
+element-copy-out-year-part-3 : here tie.Need-element-copy-out-year-part-3
+element-copy-out-year-part-3 c = search needs
+
+year-part-requires-3 : here tie.Need-year-part-requires-3
+year-part-requires-3 c κs =
+    let c4 = c .before .before .before .before in
+    let c8 = c4 .before .before .before .before in
+    let c12 = c8 .before .before .before .before in
+    let p = c12 .before .before .before .pre in
+    let hy = year-below _ (c8 .before .walk-test .taken) (c8 .family-at .ensures) (c4 .before .before .before .box-of .ensures .0) (p .0 .counted) (c4 .before .loop-test .taken) in
+    part-asked (p .0 .counted) (p .1 .1 .0) hy (places-are (c12 .before .before .before .args .c) (c12 .slices-of .ensures .0)) chargeKind (omega arith) refl
+
+element-copy-out-year-part-4 : here tie.Need-element-copy-out-year-part-4
+element-copy-out-year-part-4 c = search needs
+
+year-part-requires-4 : here tie.Need-year-part-requires-4
+year-part-requires-4 c κs =
+    let c4 = c .before .before .before .before in
+    let c8 = c4 .before .before .before .before in
+    let c12 = c8 .before .before .before .before in
+    let c16 = c12 .before .before .before .before in
+    let p = c16 .before .pre in
+    let hy = year-below _ (c8 .before .before .before .walk-test .taken) (c8 .before .before .family-at .ensures) (c8 .before .box-of .ensures .0) (p .0 .counted) (c4 .before .before .before .loop-test .taken) in
+    part-asked (p .0 .counted) (p .1 .1 .0) hy (places-are (c16 .before .args .c) (c12 .before .before .slices-of .ensures .0)) levelKind (omega arith) refl
 
 loop2-holds : here tie.Need-loop2-holds
-loop2-holds c = none (c .before .before .before .before .before .loop .inv .accepted)
+loop2-holds c = none (c .before .before .before .before .before .before .before .before .before .loop .inv .accepted)
 
 loop3-holds : here tie.Need-loop3-holds
 loop3-holds c = none (c .before .loop2 .inv .accepted)
@@ -130,17 +156,18 @@ test-row-requires c κs =
     let c12 = c8 .before .before .before .before in
     let c16 = c12 .before .before .before .before in
     let c20 = c16 .before .before .before .before in
-    let p = c20 .pre in
-    let l = c12 .before .before .walk-test .taken in
-    let f = c12 .before .family-at .ensures in
-    let b = c12 .box-of .ensures .0 in
-    let hy = c8 .before .before .loop-test .taken in
+    let c24 = c20 .before .before .before .before in
+    let p = c24 .pre in
+    let l = c16 .before .before .walk-test .taken in
+    let f = c16 .before .family-at .ensures in
+    let b = c16 .box-of .ensures .0 in
+    let hy = c12 .before .before .loop-test .taken in
     let hi = c4 .loop2-test .taken in
     let hj = c .before .before .loop3-test .taken in
     let hs = c .loop4-test .taken in
     let y = year-below _ l f b (p .0 .counted) hy in
-    let parts = ready p y (places-are (c20 .args .c) (c16 .before .slices-of .ensures .0)) (c8 .year-part .ensures) (c4 .before .before .year-part2 .ensures) in
-    let number = member-number (c12 .before .before .before .walk .inv) (family-below _ l) (box-is _ l f b) (c8 .before .before .before .loop .inv) hy (c4 .before .loop2 .inv) hi (c .before .before .before .loop3 .inv) hj (c .before .loop4 .inv) hs in
+    let parts = ready p y (places-are (c24 .args .c) (c20 .before .slices-of .ensures .0)) (c12 .year-part .ensures) (c8 .before .before .year-part2 .ensures) (c8 .year-part3 .ensures) (c4 .before .before .year-part4 .ensures) in
+    let number = member-number (c16 .before .before .before .walk .inv) (family-below _ l) (box-is _ l f b) (c12 .before .before .before .loop .inv) hy (c4 .before .loop2 .inv) hi (c .before .before .before .loop3 .inv) hj (c .before .loop4 .inv) hs in
     (parts, (l, (inside-is _ l f b hy hi hj hs, (ap (λ (r : Family). r .equal) f, number))))
 
 enum-told : here tie.Need-enum-told
@@ -152,20 +179,23 @@ add-row c =
     let c8 = c4 .before .before .before .before in
     let c12 = c8 .before .before .before .before in
     let c16 = c12 .before .before .before .before in
-    let l = c16 .before .walk-test .taken in
-    let hy = c12 .before .loop-test .taken in
+    let c20 = c16 .before .before .before .before in
+    let l = c20 .before .walk-test .taken in
+    let hy = c16 .before .loop-test .taken in
     let hi = c4 .before .before .before .loop2-test .taken in
     let hj = c4 .before .loop3-test .taken in
     let hs = c .before .before .before .loop4-test .taken in
-    let b = box-is _ l (c16 .family-at .ensures) (c12 .before .before .before .box-of .ensures .0) in
-    let few = member-below (c16 .before .before .walk .inv) (family-below _ l) b (c12 .before .before .loop .inv) hy (c8 .loop2 .inv) hi (c4 .before .before .loop3 .inv) hj (c4 .loop4 .inv) hs (c12 .before .before .before .box-of .ensures .1) in
+    let b = box-is _ l (c20 .family-at .ensures) (c16 .before .before .before .box-of .ensures .0) in
+    let few = member-below (c20 .before .before .walk .inv) (family-below _ l) b (c16 .before .before .loop .inv) hy (c8 .loop2 .inv) hi (c4 .before .before .loop3 .inv) hj (c4 .loop4 .inv) hs (c16 .before .before .before .box-of .ensures .1) in
     record { fits = omega (arith, rows-fit _ few) }
 
 enum-known-r : here tie.Need-enum-known-r
 enum-known-r c = search needs
 
 add-s : here tie.Need-add-s
-add-s c = search needs
+add-s c =
+    let c16 = c .before .before .before .before .before .before .before .before .before .before .before .before .before .before .before .before in
+    record { fits = omega (arith, c .before .before .before .loop4-test .taken, c16 .before .before .before .box-of .ensures .1 .fewSlices) }
 
 loop4-less : here tie.Need-loop4-less
 loop4-less c = search needs
@@ -201,8 +231,8 @@ loop-less c = search needs
 
 loop-again : here tie.Need-loop-again
 loop-again c =
-    let c4 = c .before .before .before .before in
-    turn (c4 .before .before .before .loop .inv) (c4 .before .before .loop-test .taken) (c .before .loop2 .inv) (c .loop2-test .left) refl (omega arith)
+    let c8 = c .before .before .before .before .before .before .before .before in
+    turn (c8 .before .before .before .loop .inv) (c8 .before .before .loop-test .taken) (c .before .loop2 .inv) (c .loop2-test .left) refl (omega arith)
 
 add-k : here tie.Need-add-k
 add-k c = search needs
@@ -229,14 +259,15 @@ returns-2 c =
     let c16 = c12 .before .before .before .before in
     let c20 = c16 .before .before .before .before in
     let c24 = c20 .before .before .before .before in
-    let l = c16 .before .before .walk-test .taken in
-    let hy = c12 .before .before .loop-test .taken in
+    let c28 = c24 .before .before .before .before in
+    let l = c20 .before .before .walk-test .taken in
+    let hy = c16 .before .before .loop-test .taken in
     let hi = c8 .loop2-test .taken in
     let hj = c4 .before .before .loop3-test .taken in
     let hs = c4 .loop4-test .taken in
-    let b = box-is _ l (c16 .before .family-at .ensures) (c16 .box-of .ensures .0) in
+    let b = box-is _ l (c20 .before .family-at .ensures) (c20 .box-of .ensures .0) in
     let broken = outcome-fails _ (c .before .before .before .test-row .ensures) (c .before .r .given .1) in
-    answered _ _ _ (c24 .pre .0 .counts) (stopped (c16 .before .before .before .walk .inv) (family-below _ l) b (c12 .before .before .before .loop .inv) hy (c8 .before .loop2 .inv) hi (c4 .before .before .before .loop3 .inv) hj (c4 .before .loop4 .inv) hs broken)
+    answered _ _ _ (c28 .pre .0 .counts) (stopped (c20 .before .before .before .walk .inv) (family-below _ l) b (c16 .before .before .before .loop .inv) hy (c8 .before .loop2 .inv) hi (c4 .before .before .before .loop3 .inv) hj (c4 .before .loop4 .inv) hs broken)
 
 pub test-rows-spec : {M : Type 1} → statement M
 test-rows-spec =
@@ -262,6 +293,10 @@ test-rows-spec =
     year-part-requires
     element-copy-out-year-part-2
     year-part-requires-2
+    element-copy-out-year-part-3
+    year-part-requires-3
+    element-copy-out-year-part-4
+    year-part-requires-4
     loop2-holds
     loop3-holds
     loop4-holds

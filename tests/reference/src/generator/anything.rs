@@ -71,6 +71,12 @@ pub fn any_contents(random: &mut Random) -> Case {
             draft.set_data(entry.table, &indices, i128::from(value));
         }
     }
+    // Refusal 16 would come before all that these contents are for.
+    for g in 0..draft.shape.plants {
+        if draft.is_vre(g) {
+            draft.set_data(Table::Battery, &[g], 0);
+        }
+    }
     draft.case.scale = *random.pick(&[1, 2, 999, 1000]);
     if random.chance(2, 3) {
         draft.case.plan = any_list(random, draft.columns.count());
@@ -105,7 +111,8 @@ fn any_within(random: &mut Random, draft: &Draft, range: Range, indices: &[usize
 
 /// The plan of zeros over data without demand, reserve or capacity and otherwise
 /// the largest entries: check accepts it at cost 0, so any multipliers reach the
-/// columns. All plants are candidates of zone 0 and fuel 0.
+/// columns. All plants are candidates of zone 0 and fuel 0; every other one is VRE,
+/// the rest are batteries.
 pub fn steep(random: &mut Random) -> Case {
     let mut draft = Draft::empty(shape(random), 1);
     for entry in &TABLES {
@@ -115,6 +122,8 @@ pub fn steep(random: &mut Random) -> Case {
                 (Table::Demand | Table::SRes | Table::GenCap, _) => 0,
                 (Table::Zone | Table::Fuel, _) => 0,
                 (Table::Kind | Table::Year, _) => 1,
+                (Table::Vre, _) => (indices[0] % 2) as u32,
+                (Table::Battery, _) => (1 - indices[0] % 2) as u32,
                 (_, Range::ZeroWithinZone) if indices[1] == indices[2] => 0,
                 (_, Range::Within(_, most)) => most,
                 _ => u32::MAX,

@@ -14,8 +14,8 @@ use crate::rows::{FAMILIES, FAMILY_COUNT};
 use crate::shape::COUNTS;
 use crate::sums::LIMIT;
 
-/// What is known of the answer by construction. Numbers up to 8 are met by all
-/// three calls, 9 to 13 by certify alone, 14 by post alone.
+/// What is known of the answer by construction. Which calls meet a number is in
+/// `refusal`: `OF_ALL_CALLS`, `OF_CERTIFY`, `OF_POST`.
 #[derive(Clone, Copy, Debug, PartialEq, Eq)]
 pub struct Expected {
     pub number: u32,
@@ -32,6 +32,12 @@ pub enum Damage {
     DataUnderSeven,
     DataLength,
     Entry,
+    /// A battery has VRE set.
+    Storage,
+    /// A battery has VRE set and an entry is out of range, which is met first.
+    StorageAfterEntry,
+    /// A battery has VRE set, which is met first, and the scale is out of range.
+    StorageBeforeScale,
     Scale,
     PlanLength,
     RowOffScale,
@@ -43,6 +49,8 @@ pub enum Damage {
     AnyPlanEntry,
     /// Output is moved and unmet or surplus makes up for it.
     Redispatch,
+    /// A battery's charge is moved; its level and unmet or surplus make up for it.
+    Recharge,
     /// An entry of the data is changed, wherever that shows.
     AnyDataEntry,
     CostOffScale,
@@ -59,12 +67,12 @@ pub enum Damage {
 }
 
 /// Families with a limit in the data. Family 14 has none.
-pub const FAMILIES_WITH_LIMIT: [usize; 19] = [
-    1, 2, 3, 4, 5, 6, 7, 8, 9, 10, 11, 12, 13, 15, 16, 17, 18, 19, 20,
+pub const FAMILIES_WITH_LIMIT: [usize; 24] = [
+    1, 2, 3, 4, 5, 6, 7, 8, 9, 10, 11, 12, 13, 15, 16, 17, 18, 19, 20, 21, 22, 23, 24, 25,
 ];
 
 /// Families that a single plan entry can break before all others.
-pub const FAMILIES_WITH_ENTRY: [usize; 8] = [1, 2, 3, 4, 5, 6, 12, 14];
+pub const FAMILIES_WITH_ENTRY: [usize; 11] = [1, 2, 3, 4, 5, 6, 12, 14, 21, 22, 25];
 
 impl Damage {
     pub fn all() -> Vec<Damage> {
@@ -73,11 +81,15 @@ impl Damage {
             Damage::DataUnderSeven,
             Damage::DataLength,
             Damage::Entry,
+            Damage::Storage,
+            Damage::StorageAfterEntry,
+            Damage::StorageBeforeScale,
             Damage::Scale,
             Damage::PlanLength,
             Damage::RowOffScale,
             Damage::AnyPlanEntry,
             Damage::Redispatch,
+            Damage::Recharge,
             Damage::AnyDataEntry,
             Damage::CostOffScale,
             Damage::MultiplierCount,
@@ -110,6 +122,15 @@ pub fn damage(
         Damage::DataUnderSeven => Some(cut_data(random, &mut draft)),
         Damage::DataLength => Some(change_data_length(random, &mut draft)),
         Damage::Entry => Some(damage_entry(random, &mut draft)),
+        Damage::Storage => Some(set_vre_of_batteries(random, &mut draft)?),
+        Damage::StorageAfterEntry => {
+            set_vre_of_batteries(random, &mut draft)?;
+            Some(damage_entry(random, &mut draft))
+        }
+        Damage::StorageBeforeScale => {
+            damage_scale(random, &mut draft);
+            Some(set_vre_of_batteries(random, &mut draft)?)
+        }
         Damage::Scale => Some(damage_scale(random, &mut draft)),
         Damage::PlanLength => Some(change_plan_length(random, &mut draft)),
         Damage::RowOffScale => Some(row_off_scale(random, &mut draft)?),
@@ -122,6 +143,10 @@ pub fn damage(
         }
         Damage::Redispatch => {
             redispatch(random, &mut draft)?;
+            None
+        }
+        Damage::Recharge => {
+            recharge(random, &mut draft)?;
             None
         }
         Damage::AnyDataEntry => {
@@ -196,6 +221,15 @@ fn underpriced_column(draft: &Draft, column: Column, indices: &[usize]) -> Expec
     Expected {
         place: Some(draft.columns.index(column, indices) as u64),
         ..underpriced_table(column)
+    }
+}
+
+/// A plant drawn among those that are as asked; none where none is.
+fn plant_that(random: &mut Random, draft: &Draft, asked: impl Fn(usize) -> bool) -> Option<usize> {
+    let plants: Vec<usize> = (0..draft.shape.plants).filter(|&g| asked(g)).collect();
+    match plants.is_empty() {
+        true => None,
+        false => Some(*random.pick(&plants)),
     }
 }
 
@@ -284,6 +318,20 @@ pub fn entry_edges(draft: &Draft, range: Range, indices: &[usize]) -> Vec<(u32, 
     }
 }
 
+/// VRE set of one battery or of all; the lowest is named.
+fn set_vre_of_batteries(random: &mut Random, draft: &mut Draft) -> Option<Expected> {
+    let plants = 0..draft.shape.plants;
+    let mut batteries: Vec<usize> = plants.filter(|&g| draft.is_battery(g)).collect();
+    if random.chance(1, 2) && !batteries.is_empty() {
+        batteries = vec![*random.pick(&batteries)];
+    }
+    for &g in &batteries {
+        draft.set_data(Table::Vre, &[g], 1);
+    }
+    let lowest = *batteries.first()?;
+    Some(at_place(refusal::STORAGE, lowest))
+}
+
 fn damage_scale(random: &mut Random, draft: &mut Draft) -> Expected {
     draft.case.scale = *random.pick(&[0, 1001, 1002, 1_000_000, u32::MAX]);
     at_place(refusal::SCALE, 0)
@@ -337,7 +385,7 @@ pub struct Limit {
 
 /// All limits of a family that the plan reaches, so that one step more breaks
 /// the family. At `met` every row of this family still holds; for families 1,
-/// 2 and 12, `met` is the present value.
+/// 2, 12 and 21, `met` is the present value.
 pub fn limits(draft: &Draft, family: usize) -> Vec<Limit> {
     let shape = draft.shape;
     let mut found = Vec::new();
@@ -367,8 +415,32 @@ pub fn limits(draft: &Draft, family: usize) -> Vec<Limit> {
                 match family {
                     5 => least(Table::OverLoad, &[g], needed::over_load(draft, g)),
                     6 => least(Table::ResOffer, &[g], needed::reserve_offer(draft, g)),
-                    7 => least(Table::RampDn, &[g], needed::ramp_down(draft, g)),
-                    _ => least(Table::RampUp, &[g], needed::ramp_up(draft, g)),
+                    7 if !charge_binds(draft, g, Table::RampDn) => {
+                        least(Table::RampDn, &[g], needed::ramp_down(draft, g))
+                    }
+                    8 if !charge_binds(draft, g, Table::RampUp) => {
+                        least(Table::RampUp, &[g], needed::ramp_up(draft, g))
+                    }
+                    _ => {}
+                }
+            }
+        }
+        22..=25 => {
+            for g in (0..shape.plants).filter(|&g| draft.is_battery(g)) {
+                match family {
+                    // No battery may charge nothing.
+                    22 if charges(draft, g) => least(Table::Battery, &[g], 1),
+                    23 if charge_binds(draft, g, Table::RampDn) => {
+                        least(Table::RampDn, &[g], needed::charge_rise(draft, g))
+                    }
+                    24 if charge_binds(draft, g, Table::RampUp) => {
+                        least(Table::RampUp, &[g], needed::charge_fall(draft, g))
+                    }
+                    25 => {
+                        let needed = needed::energy_capacity(draft, g);
+                        least(Table::EnergyCapacity, &[g], needed);
+                    }
+                    _ => {}
                 }
             }
         }
@@ -424,7 +496,22 @@ pub fn limits(draft: &Draft, family: usize) -> Vec<Limit> {
     found
 }
 
-/// Limits that break when raised, and the two equalities.
+/// Whether a battery's charge asks more of a ramp than its output does, so that one
+/// step less breaks family 23 or 24 and not 7 or 8.
+fn charge_binds(draft: &Draft, g: usize, ramp: Table) -> bool {
+    match ramp {
+        Table::RampDn => needed::charge_rise(draft, g) > needed::ramp_down(draft, g),
+        _ => needed::charge_fall(draft, g) > needed::ramp_up(draft, g),
+    }
+}
+
+/// Whether the plant charges in any slice.
+fn charges(draft: &Draft, g: usize) -> bool {
+    let charge = |y, s| draft.entry(Column::Charge, &[y, g, s]);
+    (0..draft.shape.years).any(|y| (0..draft.shape.slices()).any(|s| charge(y, s) > 0))
+}
+
+/// Limits that break when raised, and the equalities.
 fn rising_limits(draft: &Draft, family: usize) -> Vec<Limit> {
     let shape = draft.shape;
     let mut found = Vec::new();
@@ -479,6 +566,12 @@ fn rising_limits(draft: &Draft, family: usize) -> Vec<Limit> {
             }
         }
         13 => return life_limits(draft),
+        21 => {
+            for g in (0..shape.plants).filter(|&g| draft.is_battery(g) && charges(draft, g)) {
+                let efficiency = draft.data(Table::Efficiency, &[g]);
+                most(Table::Efficiency, &[g], efficiency, 1000);
+            }
+        }
         _ => {}
     }
     found
@@ -585,6 +678,21 @@ fn break_by_entry(random: &mut Random, draft: &mut Draft, family: usize) -> Opti
             raise(draft, column, &[y, g], 1)?;
             Some(broken_row(draft, 14, &[y, g]))
         }
+        21 | 25 => {
+            let g = plant_that(random, draft, |g| draft.is_battery(g) == (family == 21))?;
+            raise(draft, Column::Level, &[y, g, s], 1)?;
+            Some(broken_row(draft, family, &[y, g, s]))
+        }
+        22 => {
+            // One Nth above the capacity of a battery, above 0 where it is none.
+            let limit = match draft.is_battery(g) {
+                true => draft.cap(y, g),
+                false => 0,
+            };
+            let change = limit + 1 - draft.entry(Column::Charge, &[y, g, s]);
+            change_charge(draft, [y, g, s], change)?;
+            Some(broken_row(draft, 22, &[y, g, s]))
+        }
         _ => None,
     }
 }
@@ -595,6 +703,35 @@ fn raise(draft: &mut Draft, column: Column, indices: &[usize], change: i128) -> 
     u32::try_from(value).ok()?;
     draft.set_entry(column, indices, value);
     Some(())
+}
+
+/// More or less charge of a plant, with unmet or surplus of its zone, and with the
+/// level of a battery up to the end of the day, so that families 1 and 21 still hold.
+fn change_charge(draft: &mut Draft, [y, g, s]: [usize; 3], change: i128) -> Option<()> {
+    let z = draft.zone_of(g);
+    raise(draft, Column::Charge, &[y, g, s], change)?;
+    match change > 0 {
+        true => raise(draft, Column::Unmet, &[y, z, s], 1000 * change)?,
+        false => raise(draft, Column::Surplus, &[y, z, s], -1000 * change)?,
+    }
+    if draft.is_battery(g) {
+        let stored = change * draft.data(Table::Efficiency, &[g]);
+        let day_end = s - draft.shape.hour_of(s) + draft.shape.hours;
+        for later in s..day_end {
+            raise(draft, Column::Level, &[y, g, later], stored)?;
+        }
+    }
+    Some(())
+}
+
+/// A battery charges more, or less.
+fn recharge(random: &mut Random, draft: &mut Draft) -> Option<()> {
+    let y = index(random, draft.shape.years);
+    let g = plant_that(random, draft, |g| draft.is_battery(g))?;
+    let s = index(random, draft.shape.slices());
+    let change = 1 + random.magnitude(draft.cap(y, g));
+    let sign = *random.pick(&[-1, 1]);
+    change_charge(draft, [y, g, s], sign * change)
 }
 
 fn redispatch(random: &mut Random, draft: &mut Draft) -> Option<()> {
@@ -705,6 +842,8 @@ fn underprice(random: &mut Random, draft: &mut Draft, column: Column) -> Option<
         Column::Surplus => lower_price(random, draft, Column::Surplus),
         Column::SpinShort => lower_price(random, draft, Column::SpinShort),
         Column::FirmShort => lower_price(random, draft, Column::FirmShort),
+        Column::Charge => underprice_charge(random, draft),
+        Column::Level => underprice_level(random, draft),
     }
 }
 
@@ -805,18 +944,80 @@ fn underprice_output(
 
 /// Family 2 stands in its transfer alone.
 fn underprice_trans(random: &mut Random, draft: &mut Draft) -> Option<Expected> {
-    let link = [
-        index(random, draft.shape.years),
-        index(random, draft.shape.zones),
-        index(random, draft.shape.zones),
-        index(random, draft.shape.slices()),
-    ];
-    if link[1] == link[2] {
+    lower_own_row(random, draft, 2, Column::Trans)
+}
+
+/// A battery's family 21 is lowered until a charge is worth more than it costs; its
+/// output is priced the better for it. Of another plant family 22 is lowered, which
+/// stands in its charge alone.
+fn underprice_charge(random: &mut Random, draft: &mut Draft) -> Option<Expected> {
+    let places = all_places(draft, Column::Charge);
+    let ledger = Ledger::new(&draft.case.data);
+    let slack = |place: &[usize]| ledger.slack(&draft.case.multipliers, Column::Charge, place);
+    let efficiency = |g: usize| draft.data(Table::Efficiency, &[g]);
+    let (storing, other): (Vec<_>, Vec<_>) = places
+        .into_iter()
+        .partition(|place| draft.is_battery(place[1]));
+    let mut lowered: Vec<(usize, Vec<usize>, i128)> = vec![];
+    for place in storing.into_iter().filter(|i| efficiency(i[1]) > 0) {
+        let change = needed::quotient_up(slack(&place) + 1, efficiency(place[1]));
+        lowered.push((21, place, change));
+    }
+    for place in other
+        .into_iter()
+        .filter(|i| draft.multiplier(22, i) > slack(i))
+    {
+        let change = slack(&place) + 1;
+        lowered.push((22, place, change));
+    }
+    lower_one(random, draft, Column::Charge, &lowered)
+}
+
+/// Family 25 stands in its level alone.
+fn underprice_level(random: &mut Random, draft: &mut Draft) -> Option<Expected> {
+    lower_own_row(random, draft, 25, Column::Level)
+}
+
+/// Lowers a multiplier of a family that stands in the column of the same indices alone,
+/// and there with −1.
+fn lower_own_row(
+    random: &mut Random,
+    draft: &mut Draft,
+    family: usize,
+    column: Column,
+) -> Option<Expected> {
+    let ledger = Ledger::new(&draft.case.data);
+    let slack = |place: &[usize]| ledger.slack(&draft.case.multipliers, column, place);
+    let lowered: Vec<(usize, Vec<usize>, i128)> = all_places(draft, column)
+        .into_iter()
+        .filter(|place| draft.multiplier(family, place) > slack(place))
+        .map(|place| (family, place.clone(), slack(&place) + 1))
+        .collect();
+    lower_one(random, draft, column, &lowered)
+}
+
+/// All indices of a table of columns.
+fn all_places(draft: &Draft, column: Column) -> Vec<Vec<usize>> {
+    let axes = COLUMNS[column as usize].axes;
+    (0..draft.shape.size(axes))
+        .map(|place| draft.shape.indices(axes, place))
+        .collect()
+}
+
+/// Lowers one of these multipliers, each by family, indices and change, so that the
+/// column of the same indices is underpriced.
+fn lower_one(
+    random: &mut Random,
+    draft: &mut Draft,
+    column: Column,
+    lowered: &[(usize, Vec<usize>, i128)],
+) -> Option<Expected> {
+    if lowered.is_empty() {
         return None;
     }
-    let over = slack(draft, Column::Trans, &link) + 1;
-    raise_multiplier(draft, 2, &link, -over)?;
-    Some(underpriced_column(draft, Column::Trans, &link))
+    let (family, place, change) = random.pick(lowered);
+    raise_multiplier(draft, *family, place, -change)?;
+    Some(underpriced_column(draft, column, place))
 }
 
 /// The single price of unmet, surplus, spinshort or firmshort is put just below

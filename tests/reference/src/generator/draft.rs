@@ -105,6 +105,10 @@ impl Draft {
         self.data(Table::Vre, &[plant]) == 1
     }
 
+    pub fn is_battery(&self, plant: usize) -> bool {
+        self.data(Table::Battery, &[plant]) == 1
+    }
+
     pub fn zone_of(&self, plant: usize) -> usize {
         self.data(Table::Zone, &[plant]) as usize
     }

@@ -52,6 +52,8 @@ pub fn all() -> Vec<Extreme> {
         accepted("gap at the limit", wide_gap(0), limit, 2 * limit),
         refused("gap past its positive limit", wide_gap(1), 13, 0),
         refused("gap past its negative limit", deep_gap(), 13, 0),
+        accepted("gap at the limit by a level limit", wide_store(0), 0, limit),
+        refused("gap past the limit by a level limit", wide_store(1), 13, 0),
         accepted("netted constant of (19)", netted_reserve(), 0, 1000 << 30),
         accepted("netted constant of (21)", netted_firm(), 0, 1000 << 30),
     ]
@@ -192,6 +194,17 @@ fn wide_gap(past: i128) -> Draft {
     draft.set_multiplier(2, &[0, 0, 1, 0], POWER - 1);
     draft.set_data(Table::Tl, &[0, 1, 0, 0], past);
     draft.set_multiplier(2, &[0, 1, 0, 0], past);
+    draft
+}
+
+/// A battery without capacity whose level limit is worth 2^62 − 1 in the first hour,
+/// and `past` times its energy capacity in the second.
+fn wide_store(past: i128) -> Draft {
+    let mut draft = idle_plant(1, 2);
+    draft.set_data(Table::Battery, &[0], 1);
+    draft.set_data(Table::EnergyCapacity, &[0], POWER + 1);
+    draft.set_multiplier(25, &[0, 0, 0], POWER - 1);
+    draft.set_multiplier(25, &[0, 0, 1], past);
     draft
 }
 

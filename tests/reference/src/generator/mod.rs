@@ -3,7 +3,8 @@
 //!
 //! - `sound` makes data and a plan that check accepts, limits near what the
 //!   plan uses; `multipliers` adds multipliers that certify accepts;
-//! - `optimal` makes plans in merit order with multipliers of gap 0;
+//! - `optimal` makes plans in merit order with multipliers of gap 0, `solved` small
+//!   cases with a battery, of gap 0 by the simplex method;
 //! - `damage` changes a sound case so that a chosen refusal is met;
 //! - `extremes` are fixed cases at and just past 2^62 − 1;
 //! - `anything` makes lists of any length and content;
@@ -25,6 +26,7 @@ pub mod needed;
 pub mod optimal;
 pub mod random;
 pub mod rivals;
+pub mod solved;
 pub mod sound;
 pub mod stations;
 
@@ -69,6 +71,18 @@ pub fn scale(random: &mut Random) -> u32 {
     }
 }
 
+/// The largest counts.
+pub const LARGEST_COUNTS: [usize; 7] = [8, 32, 8, 4, 4, 24, 10];
+
+/// A seed of which sound cases of the largest counts have batteries, and three
+/// quarters of their multipliers not 0.
+pub const FULL_SIZE_SEED: u64 = 2;
+
+/// A sound case of the largest counts.
+pub fn full_size_case() -> Case {
+    sound_case(Shape::new(LARGEST_COUNTS), FULL_SIZE_SEED)
+}
+
 /// A sound case of a given shape: check, certify and post accept it. The work
 /// is about linear in the number of rows and columns.
 pub fn sound_case(shape: Shape, seed: u64) -> Case {
@@ -91,7 +105,10 @@ pub fn case(seed: u64) -> Generated {
         return sound(sound_draft(&mut random, shape), "sound");
     }
     if random.chance(1, 8) {
-        return sound(optimal::draft(&mut random), "optimal");
+        return match random.chance(1, 3) {
+            true => sound(solved::draft(&mut random), "solved"),
+            false => sound(optimal::draft(&mut random), "optimal"),
+        };
     }
     let all = Damage::all();
     let chosen = *random.pick(&all);

@@ -4,6 +4,8 @@
 //! underpriced, in an order in which no repair undoes an earlier one:
 //!
 //! - family 1 is held down by the price of generation, of unmet and of surplus;
+//! - family 21 of a battery is what a stored kWh is worth, about what its output is
+//!   paid; family 22 takes what charge is underpriced by, family 25 the same for level;
 //! - family 5 takes what generation is still underpriced by, family 6 the same
 //!   for reserve, family 2 for transfers;
 //! - family 12, year by year from the last, prices capacity and retirement;
@@ -80,10 +82,12 @@ fn strength(draft: &Draft, style: Style, halvings: u32) -> Strength {
         Style::Weak => 1 << 50,
         Style::Economic => 0,
     };
-    // A transfer row has coefficient 1 against 1000 in family 1, so between
-    // zones family 1 is held 2^12 below the largest multiplier.
+    // A transfer row and a charge row have coefficient 1 against 1000 in family 1,
+    // so between zones and beside batteries family 1 is held 2^12 below the largest
+    // multiplier.
+    let storing = (0..draft.shape.plants).any(|g| draft.is_battery(g));
     let largest_balance = match draft.shape.zones {
-        1 => 1 << 36,
+        1 if !storing => 1 << 36,
         _ => 1 << 28,
     };
     let plant = (largest_plant / years) >> halvings;
@@ -137,6 +141,7 @@ fn attempt(random: &mut Random, draft: &mut Draft, strength: &Strength) {
     draw_limit_rows(random, draft, strength);
     draw_reserve_rows(random, draft, strength, &ledger);
     draw_balance(random, draft, strength, &ledger);
+    draw_storage(random, draft, strength, &ledger);
     repair_output(random, draft, strength, &ledger);
     repair_transfers(random, draft, strength, &ledger);
     price_capacity(random, draft, strength, &ledger);
@@ -162,7 +167,7 @@ fn idle(random: &mut Random) -> i128 {
     }
 }
 
-/// Families 7 to 11, 13 and 14.
+/// Families 7 to 11, 13, 14, 23 and 24.
 fn draw_plant_rows(random: &mut Random, draft: &mut Draft, strength: &Strength) {
     let shape = draft.shape;
     for y in 0..shape.years {
@@ -173,6 +178,8 @@ fn draw_plant_rows(random: &mut Random, draft: &mut Draft, strength: &Strength) 
                     (8, shape.hour_of(s) > 0),
                     (9, draft.is_minimum_load_day(s)),
                     (11, draft.is_vre(g)),
+                    (23, draft.is_battery(g) && shape.hour_of(s) > 0),
+                    (24, draft.is_battery(g) && shape.hour_of(s) > 0),
                 ];
                 for (family, bound) in bound {
                     let value = match bound {
@@ -318,7 +325,8 @@ fn draw_balance(random: &mut Random, draft: &mut Draft, strength: &Strength, led
 }
 
 /// The least and the largest multiplier of a row of family 1. Family 5 can take
-/// a little more than the price of generation.
+/// a little more than the price of generation, family 21 what a battery is paid.
+/// Below 0 a charge is paid too, and family 22 has to take that.
 fn balance_bounds(
     draft: &Draft,
     strength: &Strength,
@@ -329,12 +337,94 @@ fn balance_bounds(
     let [y, _, s] = row;
     let surplus = ledger.model.price_of(Column::Surplus, &row);
     let mut most = ledger.model.price_of(Column::Unmet, &row);
-    for &g in plants {
+    for &g in plants.iter().filter(|&&g| !draft.is_battery(g)) {
         let slack = ledger.slack(&draft.case.multipliers, Column::Gen, &[y, g, s]);
         most = most.min(slack.div_euclid(1000) + strength.slice);
     }
-    let least = -surplus.min(strength.balance);
+    let least = -surplus.min(strength.balance).min(LARGEST / 1000);
     (least, most.min(strength.balance).max(least))
+}
+
+/// Family 21, and what charge and level then ask of families 22 and 25.
+fn draw_storage(random: &mut Random, draft: &mut Draft, strength: &Strength, ledger: &Ledger) {
+    for y in 0..draft.shape.years {
+        for g in 0..draft.shape.plants {
+            match draft.is_battery(g) {
+                true => draw_level_rows(random, draft, strength, ledger, [y, g]),
+                false => draw_empty_level_rows(random, draft, [y, g]),
+            }
+            for s in 0..draft.shape.slices() {
+                repair_storage(random, draft, strength, ledger, [y, g, s]);
+            }
+        }
+    }
+}
+
+/// Family 21 of a battery, day by day. At `paid` its output is priced exactly; one
+/// value through the day asks nothing of the level but in its last hour.
+fn draw_level_rows(
+    random: &mut Random,
+    draft: &mut Draft,
+    strength: &Strength,
+    ledger: &Ledger,
+    [y, g]: [usize; 2],
+) {
+    let hours = draft.shape.hours;
+    for day in 0..draft.shape.slices() / hours {
+        let slices = day * hours..(day + 1) * hours;
+        let paid: Vec<i128> = slices
+            .clone()
+            .map(|s| ledger.slack(&draft.case.multipliers, Column::Gen, &[y, g, s]))
+            .map(|slack| slack.div_euclid(1000))
+            .collect();
+        let least = *paid.iter().min().expect("at least one hour");
+        let even = strength.style == Style::Economic || random.chance(1, 4);
+        for (s, &paid) in slices.zip(&paid) {
+            let value = match random.below(4) {
+                _ if even => least.min(0),
+                0 => paid - random.magnitude(strength.slice),
+                1 => random.signed(-strength.slice, strength.slice),
+                _ => paid,
+            };
+            let value = value.clamp(-strength.balance, strength.slice);
+            draft.set_multiplier(21, &[y, g, s], value);
+        }
+    }
+}
+
+/// Family 21 of a plant that is no battery: rows that read 0 ≥ 0, of both signs.
+fn draw_empty_level_rows(random: &mut Random, draft: &mut Draft, [y, g]: [usize; 2]) {
+    for s in 0..draft.shape.slices() {
+        let sign = *random.pick(&[-1, 1]);
+        let value = sign * idle(random);
+        draft.set_multiplier(21, &[y, g, s], value);
+    }
+}
+
+/// Families 22 and 25: what charge and level are underpriced by, or more.
+fn repair_storage(
+    random: &mut Random,
+    draft: &mut Draft,
+    strength: &Strength,
+    ledger: &Ledger,
+    place: [usize; 3],
+) {
+    let battery = draft.is_battery(place[1]);
+    let rows = draft.shape.years * draft.shape.plants * draft.shape.slices();
+    let store = draft.scale() * draft.data(Table::EnergyCapacity, &[place[1]]);
+    let more_level = strength.limits / (store * rows as i128 + 1);
+    for (family, column, more) in [
+        (22, Column::Charge, strength.slice),
+        (25, Column::Level, more_level.min(strength.slice)),
+    ] {
+        let slack = ledger.slack(&draft.case.multipliers, column, &place);
+        let needed = (-slack).max(0);
+        let value = match battery {
+            true => needed + random.slack(more),
+            false => needed.max(idle(random)),
+        };
+        draft.set_multiplier(family, &place, value.min(LARGEST));
+    }
 }
 
 /// Families 5 and 6: what generation and reserve are underpriced by, or more.

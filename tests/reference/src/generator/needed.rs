@@ -1,7 +1,7 @@
 //! For each limit in the data, the value that a plan just meets. The sound
 //! generator sets limits from these, and the damages put a limit one past
-//! them, so they are worked out here from the equations of document 01 and not
-//! through the rows of the implementation.
+//! them, so they are worked out here from the equations of documents 01 and 02 and
+//! not through the rows of the implementation.
 
 use super::draft::Draft;
 use crate::columns::Column;
@@ -116,6 +116,32 @@ pub fn ramp_up(draft: &Draft, g: usize) -> i128 {
         0 => 0,
         _ => draft.gen(y, g, s) - draft.gen(y, g, s - 1),
     })
+}
+
+/// (47): the least RampDn[g] that a battery's charge needs.
+pub fn charge_rise(draft: &Draft, g: usize) -> i128 {
+    largest_share(draft, g, |y, s| charge_step(draft, y, g, s))
+}
+
+/// (48): the least RampUp[g] that a battery's charge needs.
+pub fn charge_fall(draft: &Draft, g: usize) -> i128 {
+    largest_share(draft, g, |y, s| -charge_step(draft, y, g, s))
+}
+
+/// How much more a battery charges than in the hour before; 0 in a day's first hour.
+fn charge_step(draft: &Draft, y: usize, g: usize, s: usize) -> i128 {
+    let charge = |s| draft.entry(Column::Charge, &[y, g, s]);
+    match draft.shape.hour_of(s) {
+        0 => 0,
+        _ => charge(s) - charge(s - 1),
+    }
+}
+
+/// (46): the least energy capacity of a battery.
+pub fn energy_capacity(draft: &Draft, g: usize) -> i128 {
+    let levels = |y| slices(draft).map(move |s| draft.entry(Column::Level, &[y, g, s]));
+    let most = years(draft).flat_map(levels).max();
+    quotient_up(most.unwrap_or(0), draft.scale())
 }
 
 /// (26): the largest MinCapFac[g]; none where no minimum-load day meets

@@ -9,6 +9,8 @@
 //!   first year, the rest retiring in the second;
 //! - a plant's output may lie anywhere between the plan's and the least that its
 //!   minimum load asks, its reserve and every link's transfers may shrink;
+//! - a battery may charge, hold and give a share of what the plan does, or charge
+//!   and give anew as it likes;
 //! - unmet, surplus, spinshort and firmshort then take up the difference.
 
 use super::draft::{Case, Draft};
@@ -36,7 +38,8 @@ pub fn rival(random: &mut Random, case: &Case) -> Rival {
         0 => rescaled(random, case),
         1 => with_waste(random, case),
         2 | 3 => swapped(random, case),
-        4 | 5 => idle(random, case),
+        4 => idle(random, case),
+        5 | 6 => recharged(random, case),
         _ => reshaped(random, case),
     }
 }
@@ -69,6 +72,10 @@ fn swapped(random: &mut Random, case: &Case) -> Rival {
         let giver = random.below(shape.plants as u64) as usize;
         let plants = source.plants_in(source.zone_of(giver));
         let taker = *random.pick(&plants);
+        // A battery gives no more than its level has.
+        if source.is_battery(giver) || source.is_battery(taker) {
+            continue;
+        }
         let place = |g: usize| source.columns.index(Column::Gen, &[y, g, s]);
         let given = rival.entries[place(giver)] as i128;
         let room = source.cap(y, taker) * factor - rival.entries[place(taker)] as i128;
@@ -202,9 +209,73 @@ fn idle(random: &mut Random, case: &Case) -> Rival {
     build.make_up(random, "idle", false)
 }
 
+/// The plan in finer units with every battery charging and giving anew. Its
+/// availability, fuel and emissions may forbid it.
+fn recharged(random: &mut Random, case: &Case) -> Rival {
+    let factor = 1 + random.magnitude(1 << 20);
+    let mut build = Build::new(case, i128::from(case.scale) * factor);
+    for (entry, &planned) in build.entries.iter_mut().zip(&case.plan) {
+        *entry = i128::from(planned) * factor;
+    }
+    let shape = build.source.shape;
+    for y in 0..shape.years {
+        for g in 0..shape.plants {
+            if build.source.is_battery(g) {
+                recharge(random, &mut build, y, g);
+            }
+        }
+    }
+    build.make_up(random, "recharged", false)
+}
+
+/// One battery and year: each hour's charge and output within the capacity and,
+/// after a day's first hour, within the ramps; the level between 0 and its limit.
+fn recharge(random: &mut Random, build: &mut Build, y: usize, g: usize) {
+    let source = &build.source;
+    let shape = source.shape;
+    let cap = build.entry(Column::Cap, &[y, g]);
+    let [down, up] =
+        [Table::RampDn, Table::RampUp].map(|ramp| source.data(ramp, &[g]) * cap / 1000);
+    let over_load = source.data(Table::OverLoad, &[g]) * cap / 1000;
+    let efficiency = source.data(Table::Efficiency, &[g]);
+    let store = build.scale * source.data(Table::EnergyCapacity, &[g]);
+    let (mut charge, mut gen, mut level) = (0, 0, 0);
+    for s in 0..shape.slices() {
+        let first = shape.hour_of(s) == 0;
+        if first {
+            level = 0;
+        }
+        // The rise of charge is bound by RampDn, its fall by RampUp.
+        let (least, most) = match first {
+            true => (0, cap),
+            false => ((charge - up).max(0), (charge + down).min(cap)),
+        };
+        let fitting = (store - level) / efficiency.max(1);
+        charge = random.signed(least, most).min(fitting).max(least);
+        level += efficiency * charge;
+        let output = cap + over_load - build.entry(Column::Reserve, &[y, g, s]);
+        let (least, most) = match first {
+            true => (0, output),
+            false => ((gen - down).max(0), (gen + up).min(output)),
+        };
+        let least = least.max(least_output(build, y, g, s, cap));
+        gen = random.signed(least, most.min(level / 1000).max(least));
+        level -= 1000 * gen;
+        build.set(Column::Charge, &[y, g, s], charge);
+        build.set(Column::Gen, &[y, g, s], gen);
+        // Below 0 there is no level; the row of family 21 breaks then.
+        build.set(Column::Level, &[y, g, s], level.max(0));
+    }
+}
+
 fn reshape_plant(random: &mut Random, build: &mut Build, g: usize) {
     let kept = share(random);
     let (output, offer) = (share(random), share(random));
+    // A battery's charge, output and level shrink alike; a minimum load forbids it.
+    let stored = match build.source.data(Table::MinCapFac, &[g]) {
+        0 => output,
+        _ => PARTS,
+    };
     let candidate = build.source.is_candidate(g);
     let shape = build.source.shape;
     for y in 0..shape.years {
@@ -221,7 +292,14 @@ fn reshape_plant(random: &mut Random, build: &mut Build, g: usize) {
         for s in 0..shape.slices() {
             let planned = build.planned(Column::Gen, &[y, g, s]) * kept / PARTS;
             let least = least_output(build, y, g, s, cap);
-            let gen = least + (planned - least) / PARTS * output;
+            let gen = match build.source.is_battery(g) {
+                true => planned / PARTS * stored,
+                false => least + (planned - least) / PARTS * output,
+            };
+            for column in [Column::Charge, Column::Level] {
+                let planned = build.planned(column, &[y, g, s]) * kept / PARTS;
+                build.set(column, &[y, g, s], planned / PARTS * stored);
+            }
             let reserve = build.planned(Column::Reserve, &[y, g, s]) * kept / PARTS;
             build.set(Column::Gen, &[y, g, s], gen);
             build.set(Column::Reserve, &[y, g, s], reserve / PARTS * offer);
@@ -268,6 +346,7 @@ fn balance(random: &mut Random, build: &mut Build, y: usize, z: usize, s: usize)
     let mut short = build.scale * source.data(Table::Demand, &[y, z, s]) * ee;
     for g in source.plants_in(z) {
         short -= 1000 * build.entry(Column::Gen, &[y, g, s]);
+        short += 1000 * build.entry(Column::Charge, &[y, g, s]);
     }
     for z2 in source.zones_beside(z) {
         let received = 1000 - source.data(Table::Loss, &[y, z2, z]);

@@ -1,7 +1,7 @@
 //! Data and a plan that check accepts.
 //!
-//! The plan comes first: capacity, dispatch, reserve and transfers are drawn
-//! freely, and the limits in the data are then set to what the plan uses,
+//! The plan comes first: capacity, dispatch, storage, reserve and transfers are
+//! drawn freely, and the limits in the data are then set to what the plan uses,
 //! often exactly. Demand follows from the supply, and unmet, surplus and the two
 //! short columns take up what is left.
 
@@ -76,7 +76,7 @@ fn draw_calendar(random: &mut Random, draft: &mut Draft) {
     }
 }
 
-/// Zone, fuel, kind, VRE, GenCap and year of each plant.
+/// Zone, fuel, kind, VRE, GenCap, year, battery and efficiency of each plant.
 fn draw_fleet(random: &mut Random, draft: &mut Draft, size: i128) {
     let years = draft.shape.years as i128;
     for g in 0..draft.shape.plants {
@@ -84,10 +84,13 @@ fn draw_fleet(random: &mut Random, draft: &mut Draft, size: i128) {
         let fuel = random.below(draft.shape.fuels as u64);
         let candidate = random.chance(2, 5);
         let vre = random.chance(2, 5);
+        let battery = !vre && random.chance(2, 5);
         draft.set_data(Table::Zone, &[g], i128::from(zone));
         draft.set_data(Table::Fuel, &[g], i128::from(fuel));
         draft.set_data(Table::Kind, &[g], i128::from(candidate));
         draft.set_data(Table::Vre, &[g], i128::from(vre));
+        draft.set_data(Table::Battery, &[g], i128::from(battery));
+        draft.set_data(Table::Efficiency, &[g], draw_efficiency(random));
         if candidate {
             let year = random.signed(1, years);
             draft.set_data(Table::Year, &[g], year);
@@ -100,6 +103,15 @@ fn draw_fleet(random: &mut Random, draft: &mut Draft, size: i128) {
             draft.set_data(Table::Year, &[g], year);
             draft.set_data(Table::GenCap, &[g], capacity);
         }
+    }
+}
+
+/// Mostly that of a battery that is for sale; a plant that is none may have any.
+fn draw_efficiency(random: &mut Random) -> i128 {
+    match random.below(6) {
+        0 => 1000,
+        1 => random.signed(0, 1000),
+        _ => random.signed(700, 980),
     }
 }
 
@@ -149,7 +161,7 @@ fn plan_retirements(random: &mut Random, draft: &mut Draft, g: usize) {
     }
 }
 
-/// Gen and reserve. Output stays within the capacity but for some overloaded
+/// Gen, reserve, charge and level. Output stays within the capacity but for some overloaded
 /// slices, the changes between hours within the capacity too, so that ramps and
 /// seasonal availability of at most 1000 ‰ can allow them.
 fn plan_dispatch(random: &mut Random, draft: &mut Draft) {
@@ -161,9 +173,13 @@ fn plan_dispatch(random: &mut Random, draft: &mut Draft) {
                 true => random.signed(0, cap / 2),
                 false => 0,
             };
-            plan_output(random, draft, y, g, floor);
-            if !draft.is_vre(g) {
-                overload(random, draft, y, g);
+            if draft.is_battery(g) {
+                plan_storage(random, draft, y, g);
+            } else {
+                plan_output(random, draft, y, g, floor);
+                if !draft.is_vre(g) {
+                    overload(random, draft, y, g);
+                }
             }
             plan_offers(random, draft, y, g);
         }
@@ -183,6 +199,47 @@ fn plan_output(random: &mut Random, draft: &mut Draft, y: usize, g: usize, floor
             _ => (level + random.signed(-step, step)).clamp(floor, cap),
         };
         draft.set_entry(Column::Gen, &[y, g, s], level);
+    }
+}
+
+/// The largest level in hours of a battery's whole capacity. All supply of a zone
+/// in Nths of a kW is below 2^30, so that such a level fits 32 bits.
+const LARGEST_STORE: i128 = 3;
+
+/// A battery's charge, gen and level, each day from level 0. It charges or gives,
+/// in some slices both, as far as the level and a store drawn for the year allow.
+fn plan_storage(random: &mut Random, draft: &mut Draft, y: usize, g: usize) {
+    let cap = draft.cap(y, g);
+    let efficiency = draft.data(Table::Efficiency, &[g]);
+    let store = random.signed(0, 1000 * LARGEST_STORE * cap);
+    let mut level = 0;
+    for s in 0..draft.shape.slices() {
+        if draft.shape.hour_of(s) == 0 {
+            level = 0;
+        }
+        let (charges, gives) = *random.pick(&[(true, false), (false, true), (true, true)]);
+        let mut charge = 0;
+        if charges {
+            let fitting = (store - level) / efficiency.max(1);
+            charge = part_or_whole(random, cap.min(fitting));
+            level += efficiency * charge;
+        }
+        let mut gen = 0;
+        if gives {
+            gen = part_or_whole(random, cap.min(level / 1000));
+            level -= 1000 * gen;
+        }
+        draft.set_entry(Column::Charge, &[y, g, s], charge);
+        draft.set_entry(Column::Gen, &[y, g, s], gen);
+        draft.set_entry(Column::Level, &[y, g, s], level);
+    }
+}
+
+/// The most itself half of the time, otherwise anything up to it.
+fn part_or_whole(random: &mut Random, most: i128) -> i128 {
+    match random.below(2) {
+        0 => most,
+        _ => random.signed(0, most),
     }
 }
 
@@ -222,15 +279,21 @@ fn plan_offers(random: &mut Random, draft: &mut Draft, y: usize, g: usize) {
     }
 }
 
-/// OverLoad, ResOffer, RampDn, RampUp, MinCapFac, Availability and Profile from
-/// what the plan uses; CapCredit freely.
+/// OverLoad, ResOffer, RampDn, RampUp, MinCapFac, Availability, Profile and energy
+/// capacity from what the plan uses; CapCredit freely.
 fn set_dispatch_limits(random: &mut Random, draft: &mut Draft) {
     for g in 0..draft.shape.plants {
         let least = [
             (Table::OverLoad, needed::over_load(draft, g)),
             (Table::ResOffer, needed::reserve_offer(draft, g)),
-            (Table::RampDn, needed::ramp_down(draft, g)),
-            (Table::RampUp, needed::ramp_up(draft, g)),
+            (
+                Table::RampDn,
+                needed::ramp_down(draft, g).max(needed::charge_rise(draft, g)),
+            ),
+            (
+                Table::RampUp,
+                needed::ramp_up(draft, g).max(needed::charge_fall(draft, g)),
+            ),
         ];
         for (table, needed) in least {
             let limit = needed + random.slack(1000 - needed);
@@ -255,6 +318,11 @@ fn set_dispatch_limits(random: &mut Random, draft: &mut Draft) {
             };
             draft.set_data(Table::Profile, &[g, s], limit);
         }
+        let capacity = match draft.is_battery(g) {
+            true => needed::energy_capacity(draft, g) + random.slack(1000),
+            false => random.magnitude(LARGEST),
+        };
+        draft.set_data(Table::EnergyCapacity, &[g], capacity);
     }
 }
 
@@ -299,6 +367,7 @@ pub fn net_supply(draft: &Draft, y: usize, z: usize, s: usize) -> i128 {
     let mut supply = 0;
     for g in draft.plants_in(z) {
         supply += 1000 * draft.gen(y, g, s);
+        supply -= 1000 * draft.entry(Column::Charge, &[y, g, s]);
     }
     for z2 in draft.zones_beside(z) {
         let received = 1000 - draft.data(Table::Loss, &[y, z2, z]);

@@ -6,8 +6,8 @@ use crate::data::{DataLayout, Table, TABLES};
 use crate::refusal::Refusal;
 use crate::shape::Shape;
 
-pub const COLUMNS: usize = 10;
-pub const ROWS: usize = 20;
+pub const COLUMNS: usize = 12;
+pub const ROWS: usize = 25;
 
 const CAP: usize = 0;
 const GEN: usize = 3;

@@ -3,7 +3,8 @@ use Prim.Native.Nat.{_-_}
 use native.Mathlib.Omega.{arith}
 use Rattle.model.specs.Data.{read}
 use Rattle.model.specs.Counts.{slicesOf}
-use Rattle.columns.specs.Groups.{capInSlice⁺, capInSlice⁻}
+use Rattle.model.specs.Standing.{capInSlice⁺}
+use Rattle.columns.specs.Groups.{capInSlice⁻}
 use Rattle.columns.proofs.Laws.{Walked, walked-none, walked-more, walked-all}
 use Rattle.columns.proofs.capacity.cap_in_slices.Statement.{statement}
 use Rattle.columns.proofs.capacity.cap_in_slices.Tie as tie

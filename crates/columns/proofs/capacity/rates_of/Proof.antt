@@ -24,9 +24,13 @@ by-plant-requires-5 c κs = search needs
 is-vre-requires : tie.Need-is-vre-requires
 is-vre-requires c κs = search needs
 
+is-battery-requires : tie.Need-is-battery-requires
+is-battery-requires c κs = search needs
+
 returns : tie.Need-returns
 unfolding ratesOf
-returns c =
+returns d =
+    let c = d .before in
     let c3 = c .before .before .before in
     rw (
       c3 .before .before .by-plant .ensures .0,
@@ -35,6 +39,7 @@ returns c =
       c .before .before .by-plant4 .ensures .0,
       c .before .by-plant5 .ensures .0,
       c .is-vre .ensures,
+      d .is-battery .ensures,
     )
 
 pub rates-of-spec : {M : Type 1} → statement M
@@ -48,4 +53,5 @@ rates-of-spec =
     by-plant-requires-4
     by-plant-requires-5
     is-vre-requires
+    is-battery-requires
     returns)

@@ -68,6 +68,12 @@ system-emission-constant-requires c κs =
     let p = c .before .before .pre in
     let m = member-at _ 19 (c .match .keys11) (p .1 .1) in (p .0, m .1)
 
+level-limit-constant-requires : tie.Need-level-limit-constant-requires
+unfolding rowBoxes
+level-limit-constant-requires c κs =
+    let p = c .before .before .pre in
+    let m = member-at _ 24 (c .match .keys12) (p .1 .1) in (p .0, m .2)
+
 returns : tie.Need-returns
 unfolding constantOf
 returns c = rw (c .before .match .keys1) (c .balance-constant .ensures)
@@ -113,8 +119,12 @@ unfolding constantOf
 returns-11 c = rw (c .before .match .keys11) (c .system-emission-constant .ensures)
 
 returns-12 : tie.Need-returns-12
+unfolding constantOf
+returns-12 c = rw (c .before .match .keys12) (c .level-limit-constant .ensures)
+
+returns-13 : tie.Need-returns-13
 unfolding rowBoxes
-returns-12 c = let l = c .before .before .pre .1 .1 .0 in without _ _ _ _ _ _ l (without-arm _ l (c .match .rest))
+returns-13 c = let l = c .before .before .pre .1 .1 .0 in without _ _ _ _ _ _ l (without-arm _ l (c .match .rest))
 
 pub constant-at-spec : {M : Type 1} → statement M
 constant-at-spec =
@@ -131,6 +141,7 @@ constant-at-spec =
     capital-constant-requires
     zone-emission-constant-requires
     system-emission-constant-requires
+    level-limit-constant-requires
     returns
     returns-2
     returns-3
@@ -142,4 +153,5 @@ constant-at-spec =
     returns-9
     returns-10
     returns-11
-    returns-12)
+    returns-12
+    returns-13)

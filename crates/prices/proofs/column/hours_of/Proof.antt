@@ -32,10 +32,18 @@ unfolding hoursOf
 returns-5 c = rw (c .match .keys5)
 
 returns-6 : tie.Need-returns-6
-returns-6 c =
+unfolding hoursOf
+returns-6 c = rw (c .match .keys6)
+
+returns-7 : tie.Need-returns-7
+unfolding hoursOf
+returns-7 c = rw (c .match .keys7)
+
+returns-8 : tie.Need-returns-8
+returns-8 c =
     c .by-slice .ensures .0 ∙ sym (by-hour (rest-hourly _ (c .before .before .before .pre .1 .0) (c .before .match .rest)) .hours _ _)
 
 pub hours-of-spec : {M : Type 1} → statement M
 hours-of-spec =
     tie.close
-    (tie.spec by-slice-requires returns returns-2 returns-3 returns-4 returns-5 returns-6)
+    (tie.spec by-slice-requires returns returns-2 returns-3 returns-4 returns-5 returns-6 returns-7 returns-8)

@@ -31,6 +31,12 @@ single-requires c κs = search needs
 product-requires-2 : tie.Need-product-requires-2
 product-requires-2 c κs = search needs
 
+zero-requires-4 : tie.Need-zero-requires-4
+zero-requires-4 c κs = search needs
+
+zero-requires-5 : tie.Need-zero-requires-5
+zero-requires-5 c κs = search needs
+
 hour-price-requires : tie.Need-hour-price-requires
 hour-price-requires c κs =
     let p = c .before .before .before .pre in (p .0, (rest-hourly _ (p .1 .0) (c .match .rest), p .1 .1))
@@ -59,7 +65,15 @@ unfolding unitPrice
 returns-5 c = c .product2 .ensures ∙ rw (c .before .before .match .keys5, c .before .before .before .year-weight .ensures, c .before .single .ensures .0)
 
 returns-6 : tie.Need-returns-6
-returns-6 c =
+unfolding unitPrice
+returns-6 c = c .zero4 .ensures ∙ rw (c .before .match .keys6)
+
+returns-7 : tie.Need-returns-7
+unfolding unitPrice
+returns-7 c = c .zero5 .ensures ∙ rw (c .before .match .keys7)
+
+returns-8 : tie.Need-returns-8
+returns-8 c =
     let hourly = rest-hourly _ (c .before .before .before .before .before .pre .1 .0) (c .before .before .match .rest) in
     c .scale .ensures ∙ rw (c .before .hour-price .ensures, c .before .before .before .year-weight .ensures) (times-cap _ _ ∙ ap cap (sym (by-hour hourly .unit _ _ _)))
 
@@ -75,6 +89,8 @@ unit-price-spec =
     zero-requires-3
     single-requires
     product-requires-2
+    zero-requires-4
+    zero-requires-5
     hour-price-requires
     scale-requires
     returns
@@ -82,4 +98,6 @@ unit-price-spec =
     returns-3
     returns-4
     returns-5
-    returns-6)
+    returns-6
+    returns-7
+    returns-8)

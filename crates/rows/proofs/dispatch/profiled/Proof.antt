@@ -1,20 +1,20 @@
 use mathlib.Core.Path.{refl}
-use Rattle.constants.proofs.Laws.{flag-on, flag-off}
+use borrow.Author.Tests.{not-true, not-false}
 use Rattle.rows.specs.Ready.{sidesOf}
 use Rattle.rows.proofs.Laws.{product-is, part-entry, two-sums, plain}
 use borrow.Author.Needs.{needs}
 use Rattle.rows.proofs.dispatch.profiled.Statement.{statement}
 use Rattle.rows.proofs.dispatch.profiled.Tie as tie
 
-by-plant-requires : tie.Need-by-plant-requires
-by-plant-requires c κs = search needs
+is-vre-requires : tie.Need-is-vre-requires
+is-vre-requires c κs = search needs
 
 empty-requires : tie.Need-empty-requires
 empty-requires c κs = search needs
 
 returns : tie.Need-returns
 unfolding sidesOf
-returns c N = rw (flag-off 1 (c .before .before .by-plant .ensures .0) (c .before .if1 .taken)) (plain N 0 0 (c .empty .ensures))
+returns c N = rw (← c .before .before .is-vre .ensures, not-true (c .before .before .is-vre .result) (c .before .if1 .taken)) (plain N 0 0 (c .empty .ensures))
 
 by-plant-slice-requires : tie.Need-by-plant-slice-requires
 by-plant-slice-requires c κs = search needs
@@ -30,7 +30,7 @@ unfolding sidesOf
 returns-2 c N =
     let c4 = c .before .before .before .before in
     let p = c4 .before .before .before .before .pre in
-    rw (flag-on 1 (c4 .by-plant .ensures .0) (c .before .before .before .if1 .left))
+    rw (← c4 .is-vre .ensures, not-false (c4 .is-vre .result) (c .before .before .before .if1 .left))
     (plain N _ _
     (two-sums _ _ (product-is (c .before .rate-of-capacity .ensures) (c .before .before .by-plant-slice .ensures .0) refl)
     (part-entry (p .0 .1 .1) (p .1 .1 .0) (p .1 .1 .1) (c .in-thousandths .ensures))))
@@ -39,7 +39,7 @@ pub profiled-spec : {M : Type 1} → statement M
 profiled-spec =
     tie.close
     (tie.spec
-    by-plant-requires
+    is-vre-requires
     empty-requires
     returns
     by-plant-slice-requires

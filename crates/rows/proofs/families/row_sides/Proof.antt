@@ -3,90 +3,111 @@ use Rattle.model.specs.Families.{familyOf, familyCount}
 use Rattle.tables.proofs.Laws.{last-arm}
 use Rattle.constants.proofs.Laws.{inside-at}
 use Rattle.rows.specs.Ready.{sidesOf}
+use Rattle.rows.proofs.Laws.{plain-under}
 use borrow.Author.Needs.{needs}
 use Rattle.rows.proofs.families.row_sides.Statement.{statement}
 use Rattle.rows.proofs.families.row_sides.Tie as tie
 
 balance-requires : tie.Need-balance-requires
 unfolding familyOf
-balance-requires c κs = let m = inside-at _ (c .match .keys1) (c .before .before .before .before .before .pre .1 .1) in (search needs, search needs)
+balance-requires c κs = let m = inside-at _ (c .match .keys1) (c .before .before .before .before .before .before .before .pre .1 .1) in (search needs, search needs)
 
 transfer-requires : tie.Need-transfer-requires
 unfolding familyOf
-transfer-requires c κs = let m = inside-at _ (c .match .keys2) (c .before .before .before .before .before .pre .1 .1) in (search needs, search needs)
+transfer-requires c κs = let m = inside-at _ (c .match .keys2) (c .before .before .before .before .before .before .before .pre .1 .1) in (search needs, search needs)
 
 spinning-requires : tie.Need-spinning-requires
 unfolding familyOf
-spinning-requires c κs = let m = inside-at _ (c .match .keys3) (c .before .before .before .before .before .pre .1 .1) in (search needs, search needs)
+spinning-requires c κs = let m = inside-at _ (c .match .keys3) (c .before .before .before .before .before .before .before .pre .1 .1) in (search needs, search needs)
 
 firm-requires : tie.Need-firm-requires
 unfolding familyOf
-firm-requires c κs = let m = inside-at _ (c .match .keys4) (c .before .before .before .before .before .pre .1 .1) in (search needs, search needs)
+firm-requires c κs = let m = inside-at _ (c .match .keys4) (c .before .before .before .before .before .before .before .pre .1 .1) in (search needs, search needs)
 
 loading-requires : tie.Need-loading-requires
 unfolding familyOf
-loading-requires c κs = let m = inside-at _ (c .match .keys5) (c .before .before .before .before .before .pre .1 .1) in (search needs, search needs)
+loading-requires c κs = let m = inside-at _ (c .match .keys5) (c .before .before .before .before .before .before .before .pre .1 .1) in (search needs, search needs)
 
 offer-requires : tie.Need-offer-requires
 unfolding familyOf
-offer-requires c κs = let m = inside-at _ (c .match .keys6) (c .before .before .before .before .before .pre .1 .1) in (search needs, search needs)
+offer-requires c κs = let m = inside-at _ (c .match .keys6) (c .before .before .before .before .before .before .before .pre .1 .1) in (search needs, search needs)
 
-ramp-down-requires : tie.Need-ramp-down-requires
+ramp-requires : tie.Need-ramp-requires
 unfolding familyOf
-ramp-down-requires c κs = let m = inside-at _ (c .match .keys7) (c .before .before .before .before .before .pre .1 .1) in (search needs, search needs)
+ramp-requires c κs = let m = inside-at _ (c .match .keys7) (c .before .before .before .before .before .before .before .pre .1 .1) in (search needs, search needs)
 
-ramp-up-requires : tie.Need-ramp-up-requires
+ramp-requires-2 : tie.Need-ramp-requires-2
 unfolding familyOf
-ramp-up-requires c κs = let m = inside-at _ (c .match .keys8) (c .before .before .before .before .before .pre .1 .1) in (search needs, search needs)
+ramp-requires-2 c κs = let m = inside-at _ (c .match .keys8) (c .before .before .before .before .before .before .before .pre .1 .1) in (search needs, search needs)
 
 minimum-load-requires : tie.Need-minimum-load-requires
 unfolding familyOf
-minimum-load-requires c κs = let m = inside-at _ (c .match .keys9) (c .before .before .before .before .before .pre .1 .1) in (search needs, search needs)
+minimum-load-requires c κs = let m = inside-at _ (c .match .keys9) (c .before .before .before .before .before .before .before .pre .1 .1) in (search needs, search needs)
 
 available-requires : tie.Need-available-requires
 unfolding familyOf
-available-requires c κs = let m = inside-at _ (c .match .keys10) (c .before .before .before .before .before .pre .1 .1) in (search needs, search needs)
+available-requires c κs = let m = inside-at _ (c .match .keys10) (c .before .before .before .before .before .before .before .pre .1 .1) in (search needs, search needs)
 
 profiled-requires : tie.Need-profiled-requires
 unfolding familyOf
-profiled-requires c κs = let m = inside-at _ (c .match .keys11) (c .before .before .before .before .before .pre .1 .1) in (search needs, search needs)
+profiled-requires c κs = let m = inside-at _ (c .match .keys11) (c .before .before .before .before .before .before .before .pre .1 .1) in (search needs, search needs)
 
 stock-requires : tie.Need-stock-requires
 unfolding familyOf
-stock-requires c κs = let m = inside-at _ (c .match .keys12) (c .before .before .before .before .before .pre .1 .1) in (search needs, search needs)
+stock-requires c κs = let m = inside-at _ (c .match .keys12) (c .before .before .before .before .before .before .before .pre .1 .1) in (search needs, search needs)
 
 life-requires : tie.Need-life-requires
 unfolding familyOf
-life-requires c κs = let m = inside-at _ (c .match .keys13) (c .before .before .before .before .before .pre .1 .1) in (search needs, search needs)
+life-requires c κs = let m = inside-at _ (c .match .keys13) (c .before .before .before .before .before .before .before .pre .1 .1) in (search needs, search needs)
 
 fixed-requires : tie.Need-fixed-requires
 unfolding familyOf
-fixed-requires c κs = let m = inside-at _ (c .match .keys14) (c .before .before .before .before .before .pre .1 .1) in (search needs, search needs)
+fixed-requires c κs = let m = inside-at _ (c .match .keys14) (c .before .before .before .before .before .before .before .pre .1 .1) in (search needs, search needs)
 
 new-capacity-requires : tie.Need-new-capacity-requires
 unfolding familyOf
-new-capacity-requires c κs = let m = inside-at _ (c .match .keys15) (c .before .before .before .before .before .pre .1 .1) in (search needs, search needs)
+new-capacity-requires c κs = let m = inside-at _ (c .match .keys15) (c .before .before .before .before .before .before .before .pre .1 .1) in (search needs, search needs)
 
 yearly-build-requires : tie.Need-yearly-build-requires
 unfolding familyOf
-yearly-build-requires c κs = let m = inside-at _ (c .match .keys16) (c .before .before .before .before .before .pre .1 .1) in (search needs, search needs)
+yearly-build-requires c κs = let m = inside-at _ (c .match .keys16) (c .before .before .before .before .before .before .before .pre .1 .1) in (search needs, search needs)
 
 fuel-use-requires : tie.Need-fuel-use-requires
 unfolding familyOf
-fuel-use-requires c κs = let m = inside-at _ (c .match .keys17) (c .before .before .before .before .before .pre .1 .1) in (search needs, search needs)
+fuel-use-requires c κs = let m = inside-at _ (c .match .keys17) (c .before .before .before .before .before .before .before .pre .1 .1) in (search needs, search needs)
 
 capital-requires : tie.Need-capital-requires
 unfolding familyOf
-capital-requires c κs = let m = inside-at _ (c .match .keys18) (c .before .before .before .before .before .pre .1 .1) in (search needs, search needs)
+capital-requires c κs = let m = inside-at _ (c .match .keys18) (c .before .before .before .before .before .before .before .pre .1 .1) in (search needs, search needs)
 
 zone-emission-requires : tie.Need-zone-emission-requires
 unfolding familyOf
-zone-emission-requires c κs = let m = inside-at _ (c .match .keys19) (c .before .before .before .before .before .pre .1 .1) in (search needs, search needs)
+zone-emission-requires c κs = let m = inside-at _ (c .match .keys19) (c .before .before .before .before .before .before .before .pre .1 .1) in (search needs, search needs)
 
 system-emission-requires : tie.Need-system-emission-requires
 unfolding familyOf
-system-emission-requires c κs =
-    let p = c .before .before .before .before .before .pre in
+system-emission-requires c κs = let m = inside-at _ (c .match .keys20) (c .before .before .before .before .before .before .before .pre .1 .1) in (search needs, search needs)
+
+battery-level-requires : tie.Need-battery-level-requires
+unfolding familyOf
+battery-level-requires c κs = let m = inside-at _ (c .match .keys21) (c .before .before .before .before .before .before .before .pre .1 .1) in (search needs, search needs)
+
+charge-limit-requires : tie.Need-charge-limit-requires
+unfolding familyOf
+charge-limit-requires c κs = let m = inside-at _ (c .match .keys22) (c .before .before .before .before .before .before .before .pre .1 .1) in (search needs, search needs)
+
+charge-ramp-requires : tie.Need-charge-ramp-requires
+unfolding familyOf
+charge-ramp-requires c κs = let m = inside-at _ (c .match .keys23) (c .before .before .before .before .before .before .before .pre .1 .1) in (search needs, search needs)
+
+charge-ramp-requires-2 : tie.Need-charge-ramp-requires-2
+unfolding familyOf
+charge-ramp-requires-2 c κs = let m = inside-at _ (c .match .keys24) (c .before .before .before .before .before .before .before .pre .1 .1) in (search needs, search needs)
+
+level-limit-requires : tie.Need-level-limit-requires
+unfolding familyOf
+level-limit-requires c κs =
+    let p = c .before .before .before .before .before .before .before .pre in
     let m = inside-at _ (last-arm (familyCount - 1) (p .1 .0) (c .match .rest)) (p .1 .1) in (search needs, search needs)
 
 returns : tie.Need-returns
@@ -115,11 +136,15 @@ returns-6 c = rw (c .before .match .keys6) (c .offer .ensures _)
 
 returns-7 : tie.Need-returns-7
 unfolding sidesOf
-returns-7 c = rw (c .before .match .keys7) (c .ramp-down .ensures _)
+returns-7 c =
+    let p = c .before .before .before .before .before .before .before .before .pre in
+    rw (c .before .match .keys7) (plain-under _ _ _ _ (c .ramp .ensures _ (p .0 .outputs)))
 
 returns-8 : tie.Need-returns-8
 unfolding sidesOf
-returns-8 c = rw (c .before .match .keys8) (c .ramp-up .ensures _)
+returns-8 c =
+    let p = c .before .before .before .before .before .before .before .before .pre in
+    rw (c .before .match .keys8) (plain-under _ _ _ _ (c .ramp2 .ensures _ (p .0 .outputs)))
 
 returns-9 : tie.Need-returns-9
 unfolding sidesOf
@@ -155,7 +180,7 @@ returns-16 c = rw (c .before .match .keys16) (c .yearly-build .ensures)
 
 returns-17 : tie.Need-returns-17
 unfolding sidesOf
-returns-17 c = rw (c .before .match .keys17) (c .fuel-use .ensures _ (c .before .before .before .before .before .before .pre .0 .energies))
+returns-17 c = rw (c .before .match .keys17) (c .fuel-use .ensures _ (c .before .before .before .before .before .before .before .before .pre .0 .energies))
 
 returns-18 : tie.Need-returns-18
 unfolding sidesOf
@@ -163,13 +188,35 @@ returns-18 c = rw (c .before .match .keys18) (c .capital .ensures)
 
 returns-19 : tie.Need-returns-19
 unfolding sidesOf
-returns-19 c = rw (c .before .match .keys19) (c .zone-emission .ensures _ (c .before .before .before .before .before .before .pre .0 .energies))
+returns-19 c = rw (c .before .match .keys19) (c .zone-emission .ensures _ (c .before .before .before .before .before .before .before .before .pre .0 .energies))
 
 returns-20 : tie.Need-returns-20
 unfolding sidesOf
-returns-20 c =
-    let p = c .before .before .before .before .before .before .pre in
-    rw (last-arm (familyCount - 1) (p .1 .0) (c .before .match .rest)) (c .system-emission .ensures _ (p .0 .energies))
+returns-20 c = rw (c .before .match .keys20) (c .system-emission .ensures _ (c .before .before .before .before .before .before .before .before .pre .0 .energies))
+
+returns-21 : tie.Need-returns-21
+unfolding sidesOf
+returns-21 c =
+    let p = c .before .before .before .before .before .before .before .before .pre .0 in
+    rw (c .before .match .keys21) (c .battery-level .ensures _ (p .outputs) (p .charges) (p .levels) _)
+
+returns-22 : tie.Need-returns-22
+unfolding sidesOf
+returns-22 c = rw (c .before .match .keys22) (c .charge-limit .ensures _)
+
+returns-23 : tie.Need-returns-23
+unfolding sidesOf
+returns-23 c = rw (c .before .match .keys23) (plain-under _ _ _ _ (c .charge-ramp .ensures))
+
+returns-24 : tie.Need-returns-24
+unfolding sidesOf
+returns-24 c = rw (c .before .match .keys24) (plain-under _ _ _ _ (c .charge-ramp2 .ensures))
+
+returns-25 : tie.Need-returns-25
+unfolding sidesOf
+returns-25 c =
+    let p = c .before .before .before .before .before .before .before .before .pre in
+    rw (last-arm (familyCount - 1) (p .1 .0) (c .before .match .rest)) (c .level-limit .ensures _ (p .0 .levels))
 
 pub row-sides-spec : {M : Type 1} → statement M
 row-sides-spec =
@@ -181,8 +228,8 @@ row-sides-spec =
     firm-requires
     loading-requires
     offer-requires
-    ramp-down-requires
-    ramp-up-requires
+    ramp-requires
+    ramp-requires-2
     minimum-load-requires
     available-requires
     profiled-requires
@@ -195,6 +242,11 @@ row-sides-spec =
     capital-requires
     zone-emission-requires
     system-emission-requires
+    battery-level-requires
+    charge-limit-requires
+    charge-ramp-requires
+    charge-ramp-requires-2
+    level-limit-requires
     returns
     returns-2
     returns-3
@@ -214,4 +266,9 @@ row-sides-spec =
     returns-17
     returns-18
     returns-19
-    returns-20)
+    returns-20
+    returns-21
+    returns-22
+    returns-23
+    returns-24
+    returns-25)

@@ -5,7 +5,8 @@ use lib.ListN.{getD}
 use Rattle.sums.specs.Sum.{on}
 use Rattle.model.specs.Counts.{slicesOf}
 use Rattle.model.specs.Data.{read, zone, isVre}
-use Rattle.terms.proofs.Laws.{on-both, plus-on, Summed, summed-none, summed-more, summed-all}
+use Rattle.sums.proofs.Tests.{on-both}
+use Rattle.terms.proofs.Laws.{plus-on, Summed, summed-none, summed-more, summed-all}
 use borrow.Author.Needs.{needs}
 use Rattle.terms.proofs.plants.vre_sum.Statement.{statement}
 use Rattle.terms.proofs.plants.vre_sum.Tie as tie

@@ -1,6 +1,6 @@
 use borrow.Author.Needs.{needs}
-use Rattle.columns.proofs.readers.is_vre.Statement.{statement}
-use Rattle.columns.proofs.readers.is_vre.Tie as tie
+use Rattle.tables.proofs.plants.is_vre.Statement.{statement}
+use Rattle.tables.proofs.plants.is_vre.Tie as tie
 
 by-plant-requires : tie.Need-by-plant-requires
 by-plant-requires c κs = search needs
