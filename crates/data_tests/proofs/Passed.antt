@@ -1,6 +1,6 @@
 -- The tests of the data: what each says, and what callers have of data that passed them all. Assumes nothing.
 use mathlib.Core.Path.{_≡_, refl, sym, ap, _∙_}
-use mathlib.Core.Bool.{Bool, true, false, _&&_}
+use mathlib.Core.Bool.{Bool}
 use mathlib.Core.List.{List}
 use Prim.Native.Nat.{ℕ, _≤_, _<_}
 use native.Mathlib.Omega.{arith}
@@ -13,9 +13,9 @@ use Rattle.sums.proofs.Spans.{orElse-fine}
 use Rattle.model.specs.declared.Outcome.{Outcome}
 use Rattle.model.specs.declared.Outcome.the-variants.{Fine, Fails}
 use Rattle.model.specs.declared.Refusal.{Refusal}
-use Rattle.model.specs.declared.Refusal.the-variants.{Shape, DataLength, Storage}
+use Rattle.model.specs.declared.Refusal.the-variants.{Shape, DataLength}
 use Rattle.model.specs.declared.Counts.{Counts}
-use Rattle.model.specs.Data.{Data, isBattery, isVre, within, _to_, mostCounts, countsOf, dataLength, read, tableCount}
+use Rattle.model.specs.Data.{Data, within, _to_, mostCounts, countsOf, dataLength, read, tableCount}
 use Rattle.model.specs.Tests.{unless, headFault, countFault, countsFault, lengthFault, entriesFault, plantStorageFault, storageFault, dataFault}
 use Rattle.model.proofs.Sound.{count-range, passed}
 use Rattle.model.specs.Columns.{columnSets, columnBoxes, columnKindCount}
@@ -113,17 +113,7 @@ module _ (l : List ℕ) where
         fewYears = y .1;
       }
 
--- a plant's test of refusal 16, as the code answers it
-module _ (D : Data) (g : ℕ) {found : Bool} (tested : found ≡ (isBattery D g && isVre D g)) where
-  pub plant-refused : found ≡ true → plantStorageFault D g ≡ fault (Storage g)
-  unfolding plantStorageFault unless
-  plant-refused e = rw (← tested, e)
-
-  pub plant-passed : found ≡ false → plantStorageFault D g ≡ fine
-  unfolding plantStorageFault unless
-  plant-passed e = rw (← tested, e)
-
--- all plants passed it
+-- all plants passed refusal 16
 pub all-passed : (D : Data) {c : Counts} {n : ℕ} → D .counts ≡ c → n ≡ c .plants → upto n (plantStorageFault D) ≡ fine → storageFault D ≡ fine
 unfolding storageFault
 all-passed D e q h = ap (λ (k : ℕ). upto k (plantStorageFault D)) (ap (λ (k : Counts). k .plants) e ∙ sym q) ∙ h

@@ -1,6 +1,6 @@
 -- What the rows of families 21, 22 and 25 say of every plan that meets them, and what refusal 16 says of the data.
-use mathlib.Core.Path.{_≡_, refl, ap, subst}
-use mathlib.Core.Bool.{Bool, true, false}
+use mathlib.Core.Path.{_≡_, refl, sym, ap, subst, _∙_}
+use mathlib.Core.Bool.{Bool, true, false, not, _&&_}
 use Prim.Native.Nat.{ℕ, _+_, _*_, _-_, _≤_, _<_}
 use native.Mathlib.Omega.{arith}
 use lib.Dec.{ltb}
@@ -92,6 +92,16 @@ unfolding entryFault
 not-entry D (index t y i j s) g e =
     let other = own-refusal _ _ e in apart (cc)
 
+-- a plant's test of refusal 16, by what is found of it
+module _ (D : Data) (g : ℕ) {found : Bool} (tested : found ≡ (isBattery D g && isVre D g)) where
+  pub plant-passed : found ≡ false → plantStorageFault D g ≡ fine
+  unfolding plantStorageFault unless
+  plant-passed e = ap (λ (b : Bool). unless (not b) (Storage g)) (sym tested ∙ e)
+
+  pub plant-refused : found ≡ true → plantStorageFault D g ≡ fault (Storage g)
+  unfolding plantStorageFault unless
+  plant-refused e = ap (λ (b : Bool). unless (not b) (Storage g)) (sym tested ∙ e)
+
 module _ (D : Data) (g : ℕ) where
   found : entriesFault D ≡ fine → storageFault D ≡ fault (Storage g) → VreBattery D g
   unfolding storageFault plantStorageFault
@@ -117,17 +127,8 @@ storage-refused l g e =
     from-either (entriesFault (read l)) _ e3 (λ p. let m = from-member (members (tableBoxes (read l .counts))) (entryFault (read l)) p in absurd (not-entry (read l) (m .0) g (m .2)))
     (found (read l) g))))
 
-module _ (D : Data) (g : ℕ) (v : VreBattery D g) where
-  refused-at : plantStorageFault D g ≡ fault (Storage g)
-  unfolding plantStorageFault unless
-  refused-at = rw (v .battery, v .vre)
-
-  passed-below : (h : ℕ) → h < g → plantStorageFault D h ≡ fine
-  unfolding plantStorageFault unless
-  passed-below h l = rw (v .lowest h l)
-
 pub storage-given : StorageGiven
 unfolding dataFault orElse storageFault
 storage-given l g a b c v =
     let D = read l in
-    rw (a, b, c, v .inRange) (upto-stop (G D) g (plantStorageFault D) (v .plant) (upto-passed g (plantStorageFault D) (passed-below D g v)) (refused-at D g v))
+    rw (a, b, c, v .inRange) (upto-stop (G D) g (plantStorageFault D) (v .plant) (upto-passed g (plantStorageFault D) (λ h below. plant-passed D h refl (v .lowest h below))) (plant-refused D g refl (rw (v .battery, v .vre))))

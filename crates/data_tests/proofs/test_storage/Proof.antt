@@ -7,7 +7,8 @@ use Rattle.sums.proofs.Spans.{upto-step, upto-stop}
 use Rattle.model.specs.Data.{read}
 use Rattle.model.specs.Tests.{plantStorageFault, storageFault}
 use Rattle.tables.specs.Layout.{outcome}
-use Rattle.data_tests.proofs.Passed.{plant-refused, plant-passed, all-passed}
+use Rattle.model.proofs.Batteries.{plant-refused, plant-passed}
+use Rattle.data_tests.proofs.Passed.{all-passed}
 use Rattle.data_tests.proofs.test_storage.Statement.{statement}
 use Rattle.data_tests.proofs.test_storage.Tie as tie
 
