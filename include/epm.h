@@ -21,12 +21,12 @@
  * A list is a pointer to its first element and its length in elements.
  *
  * data         Seven counts: zones Z, plants G, fuels F, seasons Q, days of a
- *              season D, hours of a day T, years Y. Then 45 tables: plants,
- *              demand, cables, prices, limits, batteries.
+ *              season D, hours of a day T, years Y. Then 48 tables: plants,
+ *              demand, cables, prices, limits, batteries, new lines.
  * scale        N, 1 to 1000: the plan's entries are whole Nths of their unit.
  * plan         One entry for each column: capacity, generation, reserve,
- *              flow, unmet demand, charge and the others, in docs/FORMAT.md's
- *              order.
+ *              flow, unmet demand, charge, lines built and the others, in
+ *              docs/FORMAT.md's order.
  * multipliers  One for each row, a row being an equation at its indices: the
  *              solver's dual of it, in millionths of a money unit for one
  *              unit of the row's value. FORMAT.md has the units and signs.

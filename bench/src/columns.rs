@@ -1,7 +1,7 @@
 //! The multipliers, each column over its own rows, and the gap.
 //!
-//! The sums of capacity and generation columns are taken in 128 bits by sign; those
-//! of the other columns cannot pass 2^62 − 1.
+//! The sums of capacity, generation and the lines' total are taken in 128 bits by
+//! sign; those of the other columns cannot pass 2^62 − 1.
 
 use crate::view::View;
 use epm_reference::calls::LARGEST_MULTIPLIER;
@@ -117,6 +117,14 @@ impl Columns<'_> {
         }
         for (y, g) in pairs(v.y, v.g) {
             self.level(y, g)?;
+        }
+        for (y, pair) in pairs(v.y, v.z * v.z) {
+            let load = self.built(y, pair);
+            self.narrow(0, load)?;
+        }
+        for (y, pair) in pairs(v.y, v.z * v.z) {
+            let (price, sum) = self.total(y, pair);
+            self.wide(price, sum)?;
         }
         Ok(())
     }
@@ -330,8 +338,42 @@ impl Columns<'_> {
         Ok(())
     }
 
-    /// Refusal 13, then cost + N·Σ m·k. Families 5 to 11, 13, 14 and 21 to 24 have no
-    /// constant.
+    /// Families 26 and 27.
+    fn built(&self, y: usize, pair: usize) -> i64 {
+        let v = self.view;
+        -self.m(26)[y * v.z * v.z + pair] - self.m(27)[pair]
+    }
+
+    /// Families 2, 26 and 28; between zones also 3 of the receiving one. The
+    /// multipliers of a year's slices are summed first: they have one coefficient.
+    fn total(&self, y: usize, pair: usize) -> (u64, SignedSum) {
+        let v = self.view;
+        let (z, z2) = v.zones_of(pair);
+        let slices = |family: usize, part: usize| -> i64 {
+            self.m(family)[part * v.s..(part + 1) * v.s].iter().sum()
+        };
+        let (row, each) = (v.pair(y, z, z2), u64::from(v.table(Table::LineMw)[pair]));
+        let mut sum = SignedSum::default();
+        add_wide(&mut sum, each, slices(2, row));
+        if z != z2 {
+            add_wide(&mut sum, 1000 * each, slices(3, y * v.z + z2));
+        }
+        add_wide(&mut sum, 1, self.m(26)[row]);
+        if y + 1 < v.y {
+            add_wide(&mut sum, 1, -self.m(26)[row + v.z * v.z]);
+        }
+        if z < z2 {
+            add_wide(&mut sum, 1, self.m(28)[row]);
+        }
+        if z > z2 {
+            add_wide(&mut sum, 1, -self.m(28)[v.pair(y, z2, z)]);
+        }
+        let annuity = u64::from(v.is_paid(pair)) * u64::from(v.table(Table::LineAnnuity)[pair]);
+        (v.weight(y) * annuity, sum)
+    }
+
+    /// Refusal 13, then cost + N·Σ m·k. Families 5 to 11, 13, 14, 21 to 24, 26 and 28
+    /// have no constant.
     fn gap(&self, scale: u32, cost: u64) -> Result<u64, Refusal> {
         let v = self.view;
         let mut sum = SignedSum::default();
@@ -383,6 +425,9 @@ impl Columns<'_> {
             if v.is_battery(g) {
                 add(m, of(Table::EnergyCapacity, g));
             }
+        }
+        for (pair, &m) in self.m(27).iter().enumerate() {
+            add(m, of(Table::LineLimit, pair));
         }
         let (positive, negative) = (sum.positive, sum.negative);
         let scale = u128::from(scale);

@@ -2,6 +2,7 @@
 //! hand and one pass over the same memory, at full size and at smaller shapes.
 //! Every time is the best of many runs in this one process.
 
+use epm_reference::columns::Column;
 use epm_reference::generator::draft::{Case, Draft};
 use epm_reference::generator::{sound_case, FULL_SIZE_SEED, LARGEST_COUNTS};
 use epm_reference::shape::Shape;
@@ -84,6 +85,15 @@ fn measure(case: &Case) -> Times {
     }
 }
 
+/// The pairs of zones that have new lines in the last year, each pair once.
+fn pairs_with_lines(draft: &Draft) -> usize {
+    let (zones, last) = (draft.shape.zones, draft.shape.years - 1);
+    let pairs = (0..zones).flat_map(|z| (z + 1..zones).map(move |z2| [last, z, z2]));
+    pairs
+        .filter(|pair| draft.entry(Column::Total, pair) > 0)
+        .count()
+}
+
 fn print_full_size(case: &Case, times: &Times) {
     let (rows, columns) = (case.multipliers.len(), case.plan.len());
     let used = case.multipliers.iter().filter(|m| **m != 0).count();
@@ -94,6 +104,7 @@ fn print_full_size(case: &Case, times: &Times) {
     let draft = Draft::of(case.clone());
     let batteries = (0..draft.shape.plants).filter(|&g| draft.is_battery(g));
     println!("batteries: {}", batteries.count());
+    println!("zone pairs with new lines: {}", pairs_with_lines(&draft));
     println!("multipliers that are not 0: {used}");
     println!();
     println!("| | ms | ns a row | times the walk | times the pass |");

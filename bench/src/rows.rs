@@ -1,8 +1,7 @@
 //! The families of rows, and the cost.
 //!
-//! With entries of 32 bits only families 17, 18 and 19 have sums that can pass
-//! 2^62 − 1, so only these are summed in 128 bits by sign. The value of every other
-//! row fits `i64`.
+//! With entries of 32 bits only families 2, 3 and 17 to 19 have sums that can pass
+//! 2^62 − 1, so only these are tested for it. The value of every other row fits `i64`.
 
 use crate::view::View;
 use epm_reference::columns::{Column, COLUMN_TABLES};
@@ -19,6 +18,8 @@ pub struct Rows<'v> {
     plan: [&'v [u32]; COLUMN_TABLES],
     /// Σ Dur·gen [y,g,q].
     energies: Vec<u64>,
+    /// What the lines of a pair add to TL, in Nths of a MW: MW per line·total [y,z,z2].
+    lines: Vec<u64>,
 }
 
 /// The refusal and the place within the family of the first row not met.
@@ -31,6 +32,16 @@ fn each(rows: usize, met: impl Fn(i64) -> bool, mut value: impl FnMut(usize) -> 
         Some(row) => Err((BROKEN, row)),
         None => Ok(()),
     }
+}
+
+/// The MW that lines add to TL. A product of two numbers of 32 bits fits `u64`.
+fn line_capacity(view: &View, total: &[u32]) -> Vec<u64> {
+    let each = view.table(Table::LineMw);
+    let years = total.chunks(each.len());
+    years
+        .flat_map(|total| each.iter().zip(total))
+        .map(|(&each, &total)| u64::from(each) * u64::from(total))
+        .collect()
 }
 
 /// A row of large sums: 6 before 7.
@@ -68,6 +79,7 @@ impl<'v> Rows<'v> {
             scale: u64::from(scale),
             plan,
             energies,
+            lines: line_capacity(view, plan[Column::Total as usize]),
         }
     }
 
@@ -99,6 +111,9 @@ impl<'v> Rows<'v> {
             |rows| rows.charge_ramp(Table::RampDn, 1),
             |rows| rows.charge_ramp(Table::RampUp, -1),
             Self::level_limit,
+            Self::line_balance,
+            Self::new_lines,
+            Self::lines_both_ways,
         ];
         for (family, test) in FAMILIES.iter().zip(families) {
             if let Err((number, place)) = test(self) {
@@ -142,40 +157,76 @@ impl<'v> Rows<'v> {
         })
     }
 
-    /// 2 (15).
+    /// 2 (15). What a pair may carry is one number for the slices of a season.
     fn transfer_limit(&self) -> Test {
         let v = self.view;
         let (trans, limit) = (self.column(Column::Trans), v.table(Table::Tl));
-        each(trans.len(), not_below, |row| {
-            let (pair, q) = (row / v.s, row % v.s / v.season);
-            self.scale as i64 * i64::from(limit[pair * v.q + q]) - i64::from(trans[row])
-        })
+        for (season, flows) in trans.chunks(v.season).enumerate() {
+            let (first, lines) = (season * v.season, self.lines[season / v.q]);
+            let most = u128::from(self.scale * u64::from(limit[season])) + u128::from(lines);
+            if most > LIMIT {
+                return Err((ROW_OFF_SCALE, first));
+            }
+            let most = most as u64;
+            if let Some(s) = flows.iter().position(|&flow| u64::from(flow) > most) {
+                return Err((BROKEN, first + s));
+            }
+        }
+        Ok(())
+    }
+
+    /// 1000·Σ MW per line[z2,z]·total[y,z2,z] over z2 other than z.
+    fn lines_into(&self, y: usize, z: usize) -> u128 {
+        let v = self.view;
+        let others = (0..v.z).filter(|&z2| z2 != z);
+        let lines = others.map(|z2| u128::from(self.lines[v.pair(y, z2, z)]));
+        1000 * lines.sum::<u128>()
     }
 
     /// 3 (19).
     fn spinning_reserve(&self) -> Test {
         let v = self.view;
+        for zone in 0..v.y * v.z {
+            let lines = self.lines_into(zone / v.z, zone % v.z);
+            if lines > LIMIT {
+                return Err((ROW_OFF_SCALE, zone * v.s));
+            }
+            for q in 0..v.q {
+                self.season_reserve(zone, q, lines as u64)?;
+            }
+        }
+        Ok(())
+    }
+
+    /// The rows of family 3 in one zone and season, where `lines` is on scale. All
+    /// other terms of a sign are below 2^56 together, so the sums fit `u64`.
+    fn season_reserve(&self, zone: usize, q: usize, lines: u64) -> Test {
+        let v = self.view;
+        let (y, z) = (zone / v.z, zone % v.z);
         let (gen, reserve) = (self.column(Column::Gen), self.column(Column::Reserve));
         let (trans, short) = (self.column(Column::Trans), self.column(Column::SpinShort));
-        let asked = v.table(Table::SRes);
-        let error = v.single(Table::Err) as i64;
-        each(v.y * v.z * v.s, not_below, |row| {
-            let (zone, s) = (row / v.s, row % v.s);
-            let (y, z) = (zone / v.z, zone % v.z);
-            let mut value = i64::from(short[row]);
+        let error = v.single(Table::Err);
+        let links = 1000 * self.scale * v.links_into(y, z, q);
+        let asked = 1000 * self.scale * u64::from(v.table(Table::SRes)[zone]);
+        // The constant is one number, so it counts on one side.
+        let given = lines + links.saturating_sub(asked);
+        let missing = asked.saturating_sub(links);
+        for s in q * v.season..(q + 1) * v.season {
+            let row = zone * v.s + s;
+            let (mut positive, mut negative) = (given + u64::from(short[row]), missing);
             for &g in &v.plants[z] {
                 let place = (y * v.g + g) * v.s + s;
-                value += 1000 * i64::from(reserve[place]);
+                positive += 1000 * u64::from(reserve[place]);
                 if v.is_vre(g) {
-                    value -= error * i64::from(gen[place]);
+                    negative += error * u64::from(gen[place]);
                 }
             }
             for z2 in (0..v.z).filter(|&z2| z2 != z) {
-                value -= 1000 * i64::from(trans[v.pair(y, z2, z) * v.s + s]);
+                negative += 1000 * u64::from(trans[v.pair(y, z2, z) * v.s + s]);
             }
-            let links = v.links_into(y, z, s / v.season) as i64;
-            value + 1000 * self.scale as i64 * (links - i64::from(asked[zone]))
-        })
+            verdict(row, u128::from(positive), u128::from(negative))?;
+        }
+        Ok(())
     }
 
     /// 4 (21).
@@ -465,6 +516,43 @@ impl<'v> Rows<'v> {
         })
     }
 
+    /// 26.
+    fn line_balance(&self) -> Test {
+        let v = self.view;
+        let (built, total) = (self.column(Column::Built), self.column(Column::Total));
+        each(total.len(), is_zero, |row| {
+            let earlier = match row.checked_sub(v.z * v.z) {
+                Some(earlier) => i64::from(total[earlier]),
+                None => 0,
+            };
+            i64::from(total[row]) - earlier - i64::from(built[row])
+        })
+    }
+
+    /// 27.
+    fn new_lines(&self) -> Test {
+        let v = self.view;
+        let (built, most) = (self.column(Column::Built), v.table(Table::LineLimit));
+        each(most.len(), not_below, |pair| {
+            let built = built[pair..].iter().step_by(most.len());
+            let built: i64 = built.map(|&built| i64::from(built)).sum();
+            self.scale as i64 * i64::from(most[pair]) - built
+        })
+    }
+
+    /// 28.
+    fn lines_both_ways(&self) -> Test {
+        let v = self.view;
+        let total = self.column(Column::Total);
+        each(total.len(), is_zero, |row| {
+            let (z, z2) = v.zones_of(row);
+            match z < z2 {
+                true => i64::from(total[row]) - i64::from(total[v.pair(row / v.z / v.z, z2, z)]),
+                false => 0,
+            }
+        })
+    }
+
     /// Σ c·entry.
     pub fn cost(&self) -> u128 {
         let v = self.view;
@@ -503,7 +591,19 @@ impl<'v> Rows<'v> {
             let short = self.column(Column::FirmShort)[z];
             cost += u128::from(v.single(Table::ResVoll)) * u128::from(short);
         }
-        cost
+        cost + self.lines_cost(y)
+    }
+
+    /// A year's annuities over W, those of the pairs with the lower zone first.
+    fn lines_cost(&self, y: usize) -> u128 {
+        let v = self.view;
+        let annuities = v.table(Table::LineAnnuity);
+        let total = &self.column(Column::Total)[y * annuities.len()..];
+        let pairs = annuities.iter().zip(total).enumerate();
+        pairs
+            .filter(|&(pair, _)| v.is_paid(pair))
+            .map(|(_, (&annuity, &total))| u128::from(annuity) * u128::from(total))
+            .sum()
     }
 
     /// Σ Dur·entry over a year's slices.

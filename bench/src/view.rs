@@ -4,7 +4,7 @@ use epm_reference::columns::{ColumnLayout, COLUMNS, COLUMN_TABLES};
 use epm_reference::data::{read_shape, DataLayout, Range, Table, TABLES, TABLE_COUNT};
 use epm_reference::refusal::{DATA_LENGTH, ENTRY, STORAGE};
 use epm_reference::rows::{RowLayout, FAMILIES, FAMILY_COUNT};
-use epm_reference::shape::Shape;
+use epm_reference::shape::{is_within_zone, Shape};
 use epm_reference::Refusal;
 
 /// The data by table, with the counts by document 01's letters.
@@ -95,7 +95,7 @@ impl<'a> View<'a> {
                 }
                 Range::ZeroWithinZone => (0..table.len()).find(|&place| {
                     let indices = || shape.indices(entry.axes, place);
-                    table[place] > 0 && indices()[1] == indices()[2]
+                    table[place] > 0 && is_within_zone(entry.axes, &indices())
                 }),
             };
             if let Some(place) = bad {
@@ -154,6 +154,18 @@ impl<'a> View<'a> {
     /// Zone pairs [y,z,z2] and links [y,z,z2,s] by place.
     pub fn pair(&self, y: usize, z: usize, z2: usize) -> usize {
         (y * self.z + z) * self.z + z2
+    }
+
+    /// The two zones of a pair [z,z2] or [y,z,z2] by place.
+    pub fn zones_of(&self, pair: usize) -> (usize, usize) {
+        (pair / self.z % self.z, pair % self.z)
+    }
+
+    /// Whether the lines of a pair pay their annuity: those from the lower zone to the
+    /// higher.
+    pub fn is_paid(&self, pair: usize) -> bool {
+        let (z, z2) = self.zones_of(pair);
+        z < z2
     }
 
     /// TL[y,z2,z,q] over z2 other than z.

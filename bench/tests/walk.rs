@@ -14,10 +14,11 @@ use epm_reference::generator::{
 use epm_reference::met::Met;
 use epm_reference::refusal::{
     Refusal, BROKEN, COLUMN_OFF_SCALE, ENTRY, MULTIPLIER, OF_ALL_CALLS, OF_CERTIFY, PLACED,
-    UNDERPRICED,
+    ROW_OFF_SCALE, UNDERPRICED,
 };
 use epm_reference::shape::Shape;
 use epm_reference::sums::LIMIT;
+use std::collections::BTreeSet;
 
 /// The refusals that certify can give.
 fn refusals() -> Vec<u32> {
@@ -126,6 +127,7 @@ fn the_walk_agrees_on_each_entry_changed() {
     let draft = Draft::of(sound.clone());
     let battery = (0..draft.shape.plants).any(|g| draft.is_battery(g) && draft.cap(0, g) > 0);
     assert!(battery, "no battery");
+    assert!(draft.entry(Column::Total, &[1, 0, 1]) > 0, "no lines");
     let mut agreement = Agreement::default();
     for place in 7..sound.data.len() {
         for entry in changed(sound.data[place]) {
@@ -248,4 +250,202 @@ fn the_walk_agrees_at_the_limit_of_generation_columns() {
     }
     assert!(agreement.met.refusals(COLUMN_OFF_SCALE) > 100);
     assert!(agreement.met.refusals(UNDERPRICED) > 100);
+}
+
+/// Two zones of two seasons and two years. In the first year `total` Nths of a line are
+/// built, which carry `each` MW from zone 0 to zone 1 and nothing back.
+fn with_lines(each: i128, total: i128) -> Draft {
+    let mut draft = Draft::empty(Shape::new([2, 1, 1, 2, 1, 2, 2]), 1);
+    draft.set_data(Table::Year, &[0], 3);
+    draft.set_data(Table::LineMw, &[0, 1], each);
+    for y in 0..2 {
+        draft.set_data(Table::ReturnRate, &[y], 1);
+        draft.set_data(Table::Weight, &[y], 1);
+    }
+    for (z, z2) in [(0, 1), (1, 0)] {
+        draft.set_data(Table::LineLimit, &[z, z2], total);
+        draft.set_entry(Column::Built, &[0, z, z2], total);
+        for y in 0..2 {
+            draft.set_entry(Column::Total, &[y, z, z2], total);
+        }
+    }
+    draft
+}
+
+/// Two factors of 32 bits whose product is the limit, 2^62 − 1.
+const FACTORS: (i128, i128) = ((1 << 31) + 1, (1 << 31) - 1);
+
+/// The lines of a pair at the limit of family 2, which is past that of family 3; a MW of
+/// cable in the second season is too much in family 2 as well.
+#[test]
+fn the_walk_agrees_at_the_limit_of_transfer_limits() {
+    let mut agreement = Agreement::default();
+    let (each, total) = FACTORS;
+    assert_eq!(each * total, LIMIT as i128);
+    let mut draft = with_lines(each, total);
+    let off_scale = |row| Err(Refusal::at(ROW_OFF_SCALE, row));
+    let into_zone_1 = draft.rows.index(3, &[0, 1, 0]);
+    let answer = agreement.hold("at the limit", &draft.case);
+    assert_eq!(answer, off_scale(into_zone_1));
+    draft.set_data(Table::Tl, &[0, 0, 1, 1], 1);
+    let second_season = draft.rows.index(2, &[0, 0, 1, 2]);
+    let answer = agreement.hold("past it", &draft.case);
+    assert_eq!(answer, off_scale(second_season));
+}
+
+/// What lines add to the spinning reserve, with spinshort, at the limit and just past it.
+/// TL and SRes are one constant, so that they may cancel each other out.
+#[test]
+fn the_walk_agrees_at_the_limit_of_spinning_reserve() {
+    let mut agreement = Agreement::default();
+    let (limit, total) = (LIMIT as i128, 1 << 22);
+    let each = limit / 1000 / total;
+    let rest = limit - 1000 * each * total;
+    let mut draft = with_lines(each, total);
+    draft.set_entry(Column::SpinShort, &[1, 1, 3], rest);
+    assert_eq!(agreement.hold("at the limit", &draft.case), Ok((0, 0)));
+    let largest = i128::from(u32::MAX);
+    draft.set_data(Table::Tl, &[1, 0, 1, 1], largest);
+    draft.set_data(Table::SRes, &[1, 1], largest);
+    draft.set_entry(Column::SpinShort, &[1, 1, 0], 0);
+    draft.set_data(Table::Tl, &[1, 0, 1, 0], largest);
+    assert_eq!(agreement.hold("no constant", &draft.case), Ok((0, 0)));
+    draft.set_entry(Column::SpinShort, &[1, 1, 3], rest + 1);
+    let last = draft.rows.index(3, &[1, 1, 3]);
+    let refusal = Refusal::at(ROW_OFF_SCALE, last);
+    assert_eq!(agreement.hold("past it", &draft.case), Err(refusal));
+}
+
+/// The sum of a total's terms at the limit, where its price is 0, and just past it.
+#[test]
+fn the_walk_agrees_at_the_limit_of_total_columns() {
+    let mut agreement = Agreement::default();
+    let (each, slices) = FACTORS;
+    let mut draft = with_lines(each, 0);
+    draft.set_multiplier(2, &[0, 0, 1, 0], 1);
+    draft.set_multiplier(2, &[0, 0, 1, 3], slices - 1);
+    let total = draft.columns.index(Column::Total, &[0, 0, 1]);
+    let answer = agreement.hold("at the limit", &draft.case);
+    assert_eq!(answer, Err(Refusal::at(UNDERPRICED, total)));
+    draft.set_multiplier(28, &[0, 0, 1], 1);
+    let answer = agreement.hold("past it", &draft.case);
+    assert_eq!(answer, Err(Refusal::at(COLUMN_OFF_SCALE, total)));
+}
+
+/// Three zones of two seasons and two years with any lines between them, one time in
+/// three of any size, now and then a Nth out of balance, past its limit or unlike its
+/// other direction, and any multipliers of the families that lines stand in. Reserve and
+/// spinshort have the largest price that there is, so that family 3 may be priced.
+fn draw_lines(random: &mut Random) -> Draft {
+    let mut draft = Draft::empty(Shape::new([3, 1, 1, 2, 1, 2, 2]), 1);
+    let largest = i128::from(u32::MAX);
+    draft.set_data(Table::Year, &[0], 3);
+    draft.set_data(Table::ResCost, &[0], largest);
+    draft.set_data(Table::SresVoll, &[], largest);
+    for s in 0..4 {
+        draft.set_data(Table::Duration, &[s], 8784);
+    }
+    for y in 0..2 {
+        draft.set_data(Table::ReturnRate, &[y], *random.pick(&[1, 1000]));
+        draft.set_data(Table::Weight, &[y], *random.pick(&[1, 20]));
+    }
+    let sizes = random.below(3);
+    for (z, z2) in [(0, 1), (0, 2), (1, 2)] {
+        let built = [(); 2].map(|_| match sizes {
+            0 => *random.pick(&[0, 3, 1 << 22, FACTORS.1]),
+            _ => i128::from(random.below(4)),
+        });
+        for pair in [[z, z2], [z2, z]] {
+            draw_pair(random, &mut draft, pair, built);
+        }
+    }
+    draw_multipliers(random, &mut draft);
+    draft
+}
+
+/// The data and entries of one direction of a pair that builds these lines.
+fn draw_pair(random: &mut Random, draft: &mut Draft, [z, z2]: [usize; 2], built: [i128; 2]) {
+    let mut slip = || i128::from(random.below(40) == 0);
+    // One Nth more than in the other direction.
+    let built = [built[0] + slip(), built[1]];
+    let limit = built[0] + built[1] - slip();
+    let (mut total, too_much) = (slip(), slip());
+    draft.set_data(Table::LineLimit, &[z, z2], limit.max(0));
+    let each = *random.pick(&[0, 1, 5, 1_099_511_627, FACTORS.0, (1 << 32) - 1]);
+    draft.set_data(Table::LineMw, &[z, z2], each);
+    let annuity = *random.pick(&[0, 7, (1 << 32) - 1]);
+    draft.set_data(Table::LineAnnuity, &[z, z2], annuity);
+    for (y, more) in built.into_iter().enumerate() {
+        total += more;
+        draft.set_entry(Column::Built, &[y, z, z2], more);
+        draft.set_entry(Column::Total, &[y, z, z2], total);
+        for q in 0..2 {
+            let limit = *random.pick(&[0, 4, (1 << 32) - 1]);
+            draft.set_data(Table::Tl, &[y, z, z2, q], limit);
+        }
+    }
+    // 5 MW more than a cable of 4 MW carries, unmet where they leave.
+    draft.set_entry(Column::Trans, &[0, z, z2, 3], 5 * too_much);
+    if too_much == 1 {
+        draft.set_entry(Column::Unmet, &[0, z, 3], 5000);
+        draft.set_entry(Column::Surplus, &[0, z2, 3], 5000);
+    }
+}
+
+fn draw_multipliers(random: &mut Random, draft: &mut Draft) {
+    for row in 0..draft.rows.count() {
+        let most = *random.pick(&[0, 0, 2, 1 << 20, 1 << 34]);
+        let sign = match draft.rows.family(row) {
+            Some(26 | 28) => *random.pick(&[1, -1]),
+            Some(2 | 3 | 27) => 1,
+            _ => 0,
+        };
+        draft.case.multipliers[row] = sign * random.below(most + 1) as i64;
+    }
+    // A total that lines of no size and no multiplier leave at its price.
+    if random.below(3) == 0 {
+        draft.case.multipliers.fill(0);
+    }
+}
+
+/// Every family and column of the lines as the first refusal, off scale too.
+#[test]
+fn the_walk_agrees_on_any_lines() {
+    let mut agreement = Agreement::default();
+    let mut random = Random::new(10);
+    let mut met = BTreeSet::new();
+    for draw in 0..6000 {
+        let draft = draw_lines(&mut random);
+        let answer = agreement.hold(&format!("draw {draw}"), &draft.case);
+        let Err(Refusal { number, place }) = answer else {
+            continue;
+        };
+        let place = place as usize;
+        match number {
+            ROW_OFF_SCALE | BROKEN => {
+                let family = draft.rows.family(place).expect("a row");
+                met.insert((number, format!("family {family}")));
+            }
+            COLUMN_OFF_SCALE | UNDERPRICED => {
+                let (column, _) = draft.columns.locate(place).expect("a column");
+                met.insert((number, format!("{column:?}")));
+            }
+            _ => (),
+        }
+    }
+    for (number, place) in [
+        (ROW_OFF_SCALE, "family 2"),
+        (ROW_OFF_SCALE, "family 3"),
+        (BROKEN, "family 2"),
+        (BROKEN, "family 26"),
+        (BROKEN, "family 27"),
+        (BROKEN, "family 28"),
+        (COLUMN_OFF_SCALE, "Total"),
+        (UNDERPRICED, "Built"),
+        (UNDERPRICED, "Total"),
+    ] {
+        let wanted = (number, place.to_string());
+        assert!(met.contains(&wanted), "{wanted:?} is not among {met:?}");
+    }
+    assert!(agreement.certified > 50);
 }

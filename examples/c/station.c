@@ -20,14 +20,15 @@ static const uint32_t data[] = {
     0, 0, 0, 0, 0,             /* zone cap, system cap, Tax, MaxFuel, BuildLimit */
     1000, 0, 0, 0, 0, 0,       /* VOLL, SurplusPenalty, RESVoLL, SRESVoLL, Err, MaxCapital */
     0, 0, 0,                   /* battery, efficiency, energy capacity */
+    0, 0, 0,                   /* line limit, MW per line, line annuity */
 };
 
-/* Columns: cap, build, retire, gen, reserve, trans, unmet, surplus, spinshort, firmshort, charge, level. */
-static const uint32_t plan[] = {10, 0, 0, 8, 0, 0, 0, 0, 0, 0, 0, 0};
-static const uint32_t overloaded[] = {10, 0, 0, 11, 0, 0, 0, 3000, 0, 0, 0, 0};
+/* Columns: cap, build, retire, gen, reserve, trans, unmet, surplus, spinshort, firmshort, charge, level, built, total. */
+static const uint32_t plan[] = {10, 0, 0, 8, 0, 0, 0, 0, 0, 0, 0, 0, 0, 0};
+static const uint32_t overloaded[] = {10, 0, 0, 11, 0, 0, 0, 3000, 0, 0, 0, 0, 0, 0};
 
-/* One for each of the 25 rows. Row 0 is the station's balance: 5 money units for a kW through the slice. */
-static const int64_t multipliers[25] = {5000000};
+/* One for each of the 28 rows. Row 0 is the station's balance: 5 money units for a kW through the slice. */
+static const int64_t multipliers[28] = {5000000};
 
 /* Prints an answer; 1 where it is not the expected one. */
 static int differs(const char *call, uint32_t answer, const uint64_t *out,

@@ -31,9 +31,12 @@ module _ {l tables-at : List ℕ} {ms : List ℤ} {rows-at : List ℕ} {c : Coun
   pub own-indices : Inside c (getD columnSets K 0) y i j s
   own-indices = rw e at (column-inside c (p .1) .1)
 
-  -- by year and first index; with a slice; with a second index and a slice
+  -- by year and first index; with a second index; with a slice; with both
   pub by-first : Ready l tables-at ms rows-at c × ((y < own .years) × (i < own .firsts))
   by-first = (p .0, (own-indices .year, own-indices .first))
+
+  pub by-pair : Ready l tables-at ms rows-at c × ((y < own .years) × ((i < own .firsts) × (j < own .seconds)))
+  by-pair = (p .0, (own-indices .year, (own-indices .first, own-indices .second)))
 
   pub by-slice : Ready l tables-at ms rows-at c × ((y < own .years) × ((i < own .firsts) × (s < own .slices)))
   by-slice = (p .0, (own-indices .year, (own-indices .first, own-indices .slice)))
@@ -41,7 +44,10 @@ module _ {l tables-at : List ℕ} {ms : List ℤ} {rows-at : List ℕ} {c : Coun
   pub by-second : Ready l tables-at ms rows-at c × ((y < own .years) × ((i < own .firsts) × ((j < own .seconds) × (s < own .slices))))
   by-second = (p .0, (own-indices .year, (own-indices .first, (own-indices .second, own-indices .slice))))
 
-  -- the columns of a zone, which read no data
+  -- the columns of a zone and of a pair of zones, which read no data
+  pub pair-by-year : Counted c × (RowsAt ms rows-at c × ((y < own .years) × ((i < own .firsts) × (j < own .seconds))))
+  pair-by-year = (p .0 .tablesAt .counted, (p .0 .rowsAt, by-pair .1))
+
   pub zone-by-slice : Counted c × (RowsAt ms rows-at c × ((y < own .years) × ((i < own .firsts) × (s < own .slices))))
   zone-by-slice = (p .0 .tablesAt .counted, (p .0 .rowsAt, by-slice .1))
 

@@ -1,4 +1,5 @@
 // The columns under the multipliers: Σ m·a of each column, over the rows that it stands in, positive and negative terms apart.
+pub mod cables;
 pub mod capacity;
 pub mod dispatch;
 pub mod pairs;
@@ -7,6 +8,8 @@ pub mod readers;
 pub mod storage;
 pub mod zones;
 
+use cables::built_column;
+use cables::total_column;
 use capacity::build_column;
 use capacity::cap_column;
 use capacity::retire_column;
@@ -22,10 +25,12 @@ use tables::families::BALANCE;
 use tables::families::FIRM;
 use tables::families::SPINNING;
 use tables::names::BUILD;
+use tables::names::BUILT_LINES;
 use tables::names::CAP;
 use tables::names::CHARGE;
 use tables::names::FIRMSHORT;
 use tables::names::GEN;
+use tables::names::LEVEL;
 use tables::names::RESERVE;
 use tables::names::RETIRE;
 use tables::names::SPINSHORT;
@@ -66,7 +71,9 @@ pub fn column_sums(data: &[u32], ms: &[i64], tables_at: &Starts, rows_at: &RowSt
         SPINSHORT => shortfall_column(ms, rows_at, c, SPINNING, p.year, p.first, p.slice),
         FIRMSHORT => shortfall_column(ms, rows_at, c, FIRM, p.year, p.first, p.slice),
         CHARGE => charge_column(data, ms, tables_at, rows_at, c, p.year, p.first, p.slice),
-        // level
-        _ => level_column(data, ms, tables_at, rows_at, c, p.year, p.first, p.slice),
+        LEVEL => level_column(data, ms, tables_at, rows_at, c, p.year, p.first, p.slice),
+        BUILT_LINES => built_column(ms, rows_at, c, p.year, p.first, p.second),
+        // total
+        _ => total_column(data, ms, tables_at, rows_at, c, p.year, p.first, p.second),
     }
 }

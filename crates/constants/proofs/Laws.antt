@@ -5,7 +5,7 @@ use mathlib.Core.Bool.{Bool, true, false, _&&_}
 use mathlib.Core.List.{List, [], _∷_}
 use Prim.Native.Nat.{ℕ, zero, suc, _+_, _*_, _≤_, _<_}
 use native.Mathlib.Omega.{arith}
-use lib.Dec.{eqb}
+use lib.Dec.{eqb, ltb}
 use lib.ListN.{getD}
 use borrow.Author.Tests.{eq-eqb, ne-eqb}
 use Rattle.sums.specs.Sum.{on}
@@ -65,7 +65,9 @@ module _ (D : Data) (y i j s : ℕ) where
       and tt and tt and tt and tt and tt and tt
       and under (isBattery D i) and (refl, refl)
       and under-both (isBattery D i) (afterFirstHour D s) and under-both (isBattery D i) (afterFirstHour D s)
-      and tt and tt
+      and tt
+      and (refl, refl) and tt and under (ltb i j)
+      and tt
 
   pub without : (k : ℕ) → k < familyCount → hasConstant k ≡ false → noConstant ≡ constantOf D (index k y i j s)
   unfolding constantOf
@@ -104,7 +106,7 @@ member-at c K e m = rw e at m
 
 -- the families that have an arm of their own
 abbrev arms : List ℕ
-arms = 0 ∷ 1 ∷ 2 ∷ 3 ∷ 11 ∷ 14 ∷ 15 ∷ 16 ∷ 17 ∷ 18 ∷ 19 ∷ 24 ∷ []
+arms = 0 ∷ 1 ∷ 2 ∷ 3 ∷ 11 ∷ 14 ∷ 15 ∷ 16 ∷ 17 ∷ 18 ∷ 19 ∷ 24 ∷ 26 ∷ []
 
 -- flags that are those of a test, place by place
 abbrev flags : (ℕ → Bool) → ℕ → ℕ → List Bool

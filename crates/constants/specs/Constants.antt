@@ -27,6 +27,7 @@ constantFamilies =
     ∷ true ∷ false ∷ false                                          -- 12 to 14
     ∷ true ∷ true ∷ true ∷ true ∷ true ∷ true                       -- 15 to 20
     ∷ false ∷ false ∷ false ∷ false ∷ true                          -- 21 to 25
+    ∷ false ∷ true ∷ false                                          -- 26 to 28
     ∷ []
 
 unfoldable pub hasConstant : ℕ → Bool

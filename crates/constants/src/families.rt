@@ -11,6 +11,7 @@ use crate::fleet::yearly_build_constant;
 use crate::fleet::zone_emission_constant;
 use crate::zones::balance_constant;
 use crate::zones::firm_constant;
+use crate::zones::new_lines_constant;
 use crate::zones::spinning_constant;
 use crate::zones::transfer_constant;
 use model::Counts;
@@ -22,6 +23,7 @@ use tables::families::FIRM;
 use tables::families::FUEL_USE;
 use tables::families::LEVEL_LIMIT;
 use tables::families::NEW_CAPACITY;
+use tables::families::NEW_LINES;
 use tables::families::SPINNING;
 use tables::families::STOCK;
 use tables::families::SYSTEM_EMISSION;
@@ -58,7 +60,8 @@ pub fn constant_at(data: &[u32], tables_at: &Starts, c: Counts, p: Place) -> Con
         ZONE_EMISSION => zone_emission_constant(data, tables_at, c, p.year, p.first),
         SYSTEM_EMISSION => system_emission_constant(data, tables_at, c, p.year),
         LEVEL_LIMIT => level_limit_constant(data, tables_at, c, p.first),
-        // 5 to 11, 13, 14 and 21 to 24
+        NEW_LINES => new_lines_constant(data, tables_at, c, p.first, p.second),
+        // 5 to 11, 13, 14, 21 to 24, 26 and 28
         _ => NONE,
     }
 }
@@ -90,6 +93,9 @@ const CONSTANT_FAMILIES: [bool; FAMILY_COUNT] = [
     false, // 23 charge rise
     false, // 24 charge fall
     true, // 25 level limit
+    false, // 26 line balance
+    true, // 27 new lines
+    false, // 28 lines both ways
 ];
 
 pub fn has_constant(k: usize) -> bool

@@ -1,14 +1,16 @@
-// Families 1 to 4: the constants of the rows of a zone.
+// Families 1 to 4 and 27: the constants of the rows of a zone and of a pair of zones.
 use crate::Constant;
 use energy::peak::zone_peak;
 use model::Counts;
 use parts::slices::season_of;
 use tables::entries::by_link_season;
+use tables::entries::by_pair;
 use tables::entries::by_year_zone;
 use tables::entries::by_year_zone_slice;
 use tables::entries::by_zone;
 use tables::names::DEMAND;
 use tables::names::EE;
+use tables::names::LINE_LIMIT;
 use tables::names::PRM;
 use tables::names::S_RES;
 use tables::names::TL;
@@ -89,5 +91,16 @@ pub fn firm_constant(data: &[u32], tables_at: &Starts, c: Counts, y: usize, z: u
     Constant {
         adds: 1000 * links,
         takes: rates.margin * peak,
+    }
+}
+
+// 27: line limit
+pub fn new_lines_constant(data: &[u32], tables_at: &Starts, c: Counts, z: usize, w: usize) -> Constant
+    requires { ⌜ TablesAt (now «data») (now «tables_at») c × ((z < c .zones) × (w < c .zones)) ⌝ }
+    ensures { λ r. ⌜ r ≡ constantOf (read (now («data» .entry))) (row 27 0 z w 0) ⌝ }
+{
+    Constant {
+        adds: by_pair(data, tables_at, c, LINE_LIMIT, z, w),
+        takes: 0,
     }
 }

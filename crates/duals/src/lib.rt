@@ -16,10 +16,13 @@ use tables::families::CHARGE_RISE;
 use tables::families::FIRM;
 use tables::families::FIXED;
 use tables::families::FUEL_USE;
+use tables::families::LEVEL_LIMIT;
 use tables::families::LIFE;
+use tables::families::LINE_BALANCE;
 use tables::families::LOADING;
 use tables::families::MINIMUM_LOAD;
 use tables::families::NEW_CAPACITY;
+use tables::families::NEW_LINES;
 use tables::families::OFFER;
 use tables::families::PROFILED;
 use tables::families::RAMP_DOWN;
@@ -30,7 +33,9 @@ use tables::families::SYSTEM_EMISSION;
 use tables::families::TRANSFER;
 use tables::families::YEARLY_BUILD;
 use tables::families::ZONE_EMISSION;
+use tables::sets::BY_LINK;
 use tables::sets::BY_LINK_SLICE;
+use tables::sets::BY_PAIR;
 use tables::sets::BY_PLANT;
 use tables::sets::BY_YEAR;
 use tables::sets::BY_YEAR_PLANT;
@@ -133,8 +138,11 @@ fn set_of(k: usize) -> usize
         CHARGE_LIMIT => BY_YEAR_PLANT_SLICE,
         CHARGE_RISE => BY_YEAR_PLANT_SLICE,
         CHARGE_FALL => BY_YEAR_PLANT_SLICE,
-        // LEVEL_LIMIT
-        _ => BY_YEAR_PLANT_SLICE,
+        LEVEL_LIMIT => BY_YEAR_PLANT_SLICE,
+        LINE_BALANCE => BY_LINK,
+        NEW_LINES => BY_PAIR,
+        // LINES_BOTH_WAYS
+        _ => BY_LINK,
     }
 }
 

@@ -123,7 +123,7 @@ fn priced_at(data: &[u32], ms: &[i64], tables_at: &Starts, rows_at: &RowStarts, 
     ensures { λ r. ⌜ r ≡ columnFigures (read (now («data» .entry))) (now (ms .entry)) (indexOf p) ⌝ }
 {
     let sums = column_sums(data, ms, tables_at, rows_at, c, p);
-    let unit = unit_price(data, tables_at, c, p.kind, p.year, p.first);
+    let unit = unit_price(data, tables_at, c, p.kind, p.year, p.first, p.second);
     let hours = hours_of(data, tables_at, c, p.kind, p.slice);
     told_pair(sums, capped::scale(unit, hours))
 }

@@ -16,7 +16,7 @@ use Rattle.places.specs.Numbers.{sliceAt}
 -- The index sets by code, each as the letters of its indices, with a slash between them: y a year, z a zone, w a second zone, g a plant, f a fuel,
 -- s a slice, q a season that stands in the slice's place, m and d the season and the day of a minimum-load day.
 abbrev pub setLetters : List ℕ
-setLetters = bytes "yzs/yzws/yz/ygs/ygq/yg/g/yzf//y/s/md/gq/gs/z/yzwq/yzw/yf"
+setLetters = bytes "yzs/yzws/yz/ygs/ygq/yg/g/yzf//y/s/md/gq/gs/z/yzwq/yzw/yf/zw"
 
 -- words, and a number counted from 0 as one counted from 1
 abbrev pub counted : String → ℕ → List ℕ

@@ -14,7 +14,7 @@ ghost use Rattle.writer.specs.Writing.{Started, Said};
 ghost use Rattle.index_words.specs.Indices.{sliceWords, indexWords, lettersWords, placeWords, Low};
 
 // The index sets by code, each as the letters of its indices (specs/Indices.antt), with a slash between them.
-const SET_LETTERS: [u8; 56] = *b"yzs/yzws/yz/ygs/ygq/yg/g/yzf//y/s/md/gq/gs/z/yzwq/yzw/yf";
+const SET_LETTERS: [u8; 59] = *b"yzs/yzws/yz/ygs/ygq/yg/g/yzf//y/s/md/gq/gs/z/yzwq/yzw/yf/zw";
 
 // Words, and an index counted from 0 as one counted from 1.
 pub fn say_counted(line: &mut [u8; ROOM], at: usize, words: &[u8], index: usize) -> usize

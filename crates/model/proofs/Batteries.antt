@@ -6,22 +6,19 @@ use native.Mathlib.Omega.{arith}
 use lib.Dec.{ltb}
 use borrow.Author.Tests.{not-true, not-false}
 use Rattle.sums.specs.Sum.{on}
-use Rattle.sums.specs.Span.{Fault, fine, fault, orElse}
+use Rattle.sums.specs.Span.{fine, fault, orElse}
 use Rattle.sums.specs.Index.{Index, index, members}
 use Rattle.sums.proofs.Tests.{on-false, on-true}
-use Rattle.sums.proofs.Spans.{orElse-fine, upto-fine, upto-passed, upto-stop, from-either, from-range, from-member}
-use Rattle.model.specs.declared.Refusal.{Refusal}
+use Rattle.sums.proofs.Spans.{upto-fine, upto-passed, upto-stop, from-either, from-range, from-member}
 use Rattle.model.specs.declared.Refusal.the-variants.{Storage}
-use Rattle.model.specs.declared.Answer.the-variants.{Accepted}
 use Rattle.model.specs.Data.{Data, read, tableBoxes, isBattery, isVre, efficiency, energyCapacity, hour, afterFirstHour, Y, G, S}
 use Rattle.model.specs.Columns.{entries, cap, gen, charge, level}
 use Rattle.model.specs.Families.{row, equation, familyOf, rowBoxes}
-use Rattle.model.specs.Tests.{unless, headFault, countFault, countsFault, lengthFault, entryFault, entriesFault, plantStorageFault, storageFault, dataFault, constant⁺, constant⁻, above, below, planFault}
-use Rattle.model.specs.Calls.{answer, checkFault, check}
+use Rattle.model.specs.Tests.{unless, headFault, countFault, countsFault, lengthFault, entryFault, entriesFault, plantStorageFault, storageFault, dataFault, constant⁺, constant⁻, above, below}
 use Rattle.model.specs.Rival.{Rival}
 use Rattle.model.specs.Claims.{VreBattery, StorageRefused, StorageGiven, Uncharged, NoBattery, NoBatteryAccepted, EmptyAtMidnight, DaysApart}
 use Rattle.model.proofs.Sound.{passed, failed, own-refusal, both}
-use Rattle.model.proofs.Demand.{meets-all}
+use Rattle.model.proofs.Accepted.{accepted-meets}
 
 module _ (D : Data) (M : ℕ) (x : Index → ℕ) (plan : Rival D M x) (y g s : ℕ) (hy : y < Y D) (hg : g < G D) (hs : s < S D) where
   -- 22: charge ≤ cap of a battery
@@ -59,16 +56,8 @@ module _ (D : Data) (M : ℕ) (x : Index → ℕ) (plan : Rival D M x) (y g s : 
 pub no-battery : NoBattery
 no-battery = uncharged
 
-accepted-fine : (f : Fault Refusal) (n c : ℕ) → answer f n ≡ Accepted c → f ≡ fine
-accepted-fine fine n c e = refl
-accepted-fine (fault r) n c e = let z : _≡_ {A = ℕ} 0 1 = cc in absurd (omega arith)
-
 pub no-battery-accepted : NoBatteryAccepted
-unfolding check checkFault planFault
-no-battery-accepted l N plan c e =
-    let p = orElse-fine _ _ (accepted-fine (checkFault l N plan) _ c e) .1 in
-    let rows = orElse-fine _ _ (orElse-fine _ _ (orElse-fine _ _ p .1) .1) .0 in
-    uncharged (read l) N (entries (read l) plan) (meets-all (read l) N (entries (read l) plan) rows)
+no-battery-accepted l N plan c e = uncharged (read l) N (entries (read l) plan) (accepted-meets l N plan c e)
 
 pub empty-at-midnight : EmptyAtMidnight
 empty-at-midnight = from-empty

@@ -9,6 +9,9 @@ pub mod Numbers
 pub mod Peak
 pub mod Sound
 pub mod Demand
+pub mod Absent
+pub mod Accepted
 pub mod Batteries
+pub mod Cables
 pub mod Rivals
 pub mod Sharp

@@ -5,7 +5,7 @@ use native.Mathlib.Nat.{mul-le-mul-right, mul-assoc, suc-mul}
 use native.Mathlib.Omega.{arith}
 use Rattle.sums.specs.Index.{Index, index, Member}
 use Rattle.model.specs.Data.{Data, Z, G, Q, Y, S, P}
-use Rattle.model.specs.Columns.{columnBoxes, cap, build, retire, gen, reserve, trans, unmet, surplus, spinshort, firmshort, charge, level}
+use Rattle.model.specs.Columns.{columnBoxes, cap, build, retire, gen, reserve, trans, unmet, surplus, spinshort, firmshort, charge, level, builtLines, totalLines}
 use Rattle.model.specs.Families.{sliceOf}
 
 module _ (D : Data) where
@@ -59,6 +59,14 @@ module _ (D : Data) where
   pub in-level : {y g s : ℕ} → y < Y D → g < G D → s < S D → Column (level y g s)
   unfolding columnBoxes
   in-level hy hg hs = (omega arith, hy, hg, omega arith, hs)
+
+  pub in-built : {y z w : ℕ} → y < Y D → z < Z D → w < Z D → Column (builtLines y z w)
+  unfolding columnBoxes
+  in-built hy hz hw = (omega arith, hy, hz, hw, omega arith)
+
+  pub in-total : {y z w : ℕ} → y < Y D → z < Z D → w < Z D → Column (totalLines y z w)
+  unfolding columnBoxes
+  in-total hy hz hw = (omega arith, hy, hz, hw, omega arith)
 
   -- a season's slices are slices of the year
   pub in-year : (q i : ℕ) → q < Q D → i < P D → sliceOf D q i < S D

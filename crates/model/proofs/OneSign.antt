@@ -52,6 +52,9 @@ module _ (D : Data) where
       and omega (arith, ltb-true, mod-le s (T D))  -- 23: charge at s and at s − 1
       and omega (arith, ltb-true, mod-le s (T D))  -- 24: charge at s and at s − 1
       and omega arith
+      and omega (arith, ltb-true)  -- 26: total of a year and of the year before
+      and omega arith
+      and omega (arith, ltb-true)  -- 28: total of the two directions, z below z2
       and tt
 
 pub one-sign : OneSign

@@ -53,4 +53,7 @@ module _ (D : Data) (x : Index → ℕ) where
     family23 = λ y g s hy hg hs. simp on-zero at (reads (row 23 y g 0 s) (omega arith, hy, hg, omega arith, hs));
     family24 = λ y g s hy hg hs. simp on-zero at (reads (row 24 y g 0 s) (omega arith, hy, hg, omega arith, hs));
     family25 = λ y g s hy hg hs. reads (row 25 y g 0 s) (omega arith, hy, hg, omega arith, hs);
+    family26 = λ y z w hy hz hw. reads (row 26 y z w 0) (omega arith, hy, hz, hw, omega arith);
+    family27 = λ z w hz hw. reads (row 27 0 z w 0) (omega arith, omega arith, hz, hw, omega arith);
+    family28 = λ y z w hy hz hw. simp on-zero at (reads (row 28 y z w 0) (omega arith, hy, hz, hw, omega arith));
   }

@@ -54,7 +54,9 @@ module _ (D : Data) (p : Placed D) where
       ▹ (λ y z j s hy hz hj hs m. simp (collapse, only-zero hj, sum-at hy, sum-at hz, sum-at hs) (refl, refl))  -- spinshort
       ▹ (λ y z j s hy hz hj hs m. simp (collapse, only-zero hj, only-zero hs, sum-at hy, sum-at hz) (refl, refl))  -- firmshort
       ▹ (λ y g j s hy hg hj hs m. simp (collapse-next, zero-mod, mul-mod-left, only-zero hj, sum-at hy, sum-at hg, sum-at (p .zoned g hg), sum-at hs, sum-next-inside hs) (omega (arith, ramps-apart D g 24 23 y s m), omega (arith, ramps-apart D g 23 24 y s m)))  -- charge
-      ▹ (λ y g j s hy hg hj hs m. simp (collapse-next, zero-mod, mul-mod-left, only-zero hj, sum-at hy, sum-at hg, sum-at hs, sum-next-inside hs) (refl, refl)))  -- level
+      ▹ (λ y g j s hy hg hj hs m. simp (collapse-next, zero-mod, mul-mod-left, only-zero hj, sum-at hy, sum-at hg, sum-at hs, sum-next-inside hs) (refl, refl))  -- level
+      ▹ (λ y z w s hy hz hw hs m. simp (collapse, only-zero hs, sum-at hy, sum-at hz, sum-at hw) (refl, refl))  -- built
+      ▹ (λ y z w s hy hz hw hs m. simp (collapse-next, sum-add, only-zero hs, sum-at hy, sum-at hz, sum-at hw, sum-next (Y D) y) (omega arith, refl)))  -- total
 
 pub stands : (D : Data) → Stands D
 unfolding StandsAt

@@ -9,7 +9,7 @@ use Rattle.sums.proofs.Lists.{Alls, at-place, _and_}
 use Rattle.model.specs.Data.{Data, Z, G, Q, Y, S, P}
 use Rattle.model.specs.Columns.{columnBoxes}
 use Rattle.model.specs.Families.{Equation, empty, equation, equations, rowBoxes, sliceOf}
-use Rattle.model.proofs.Members.{Column, in-cap, in-build, in-retire, in-gen, in-reserve, in-trans, in-unmet, in-surplus, in-spinshort, in-firmshort, in-charge, in-level, in-year}
+use Rattle.model.proofs.Members.{Column, in-cap, in-build, in-retire, in-gen, in-reserve, in-trans, in-unmet, in-surplus, in-spinshort, in-firmshort, in-charge, in-level, in-built, in-total, in-year}
 
 module _ (D : Data) where
   abbrev pub Inside : Equation → Type 0
@@ -25,8 +25,8 @@ module _ (D : Data) where
   unfolding equation rowBoxes
   each-inside y i j s =
       (λ hy hz _ hs. (((λ g hg _. in-gen D hy hg hs, λ u hu _. in-trans D hy hu hz hs), in-unmet D hy hz hs), ((λ g hg _. in-charge D hy hg hs, λ u hu _. in-trans D hy hz hu hs), in-surplus D hy hz hs)))
-      and (λ hy hz hw hs. (tt, in-trans D hy hz hw hs))
-      and (λ hy hz _ hs. ((λ g hg _. in-reserve D hy hg hs, in-spinshort D hy hz hs), (λ u hu _. in-trans D hy hu hz hs, λ g hg _ _. in-gen D hy hg hs)))
+      and (λ hy hz hw hs. (in-total D hy hz hw, in-trans D hy hz hw hs))
+      and (λ hy hz _ hs. (((λ g hg _. in-reserve D hy hg hs, in-spinshort D hy hz hs), λ u hu _. in-total D hy hu hz), (λ u hu _. in-trans D hy hu hz hs, λ g hg _ _. in-gen D hy hg hs)))
       and (λ hy hz _ _. ((λ g hg _. in-cap D hy hg, in-firmshort D hy hz), tt))
       and (λ hy hg _ hs. (in-cap D hy hg, (in-gen D hy hg hs, in-reserve D hy hg hs)))
       and (λ hy hg _ hs. (in-cap D hy hg, in-reserve D hy hg hs))
@@ -49,6 +49,9 @@ module _ (D : Data) where
       and (λ hy hg _ hs. (λ _ _. (in-cap D hy hg, in-charge D hy hg (omega arith)), λ _ _. in-charge D hy hg hs))
       and (λ hy hg _ hs. (λ _ _. (in-cap D hy hg, in-charge D hy hg hs), λ _ _. in-charge D hy hg (omega arith)))
       and (λ hy hg _ hs. (tt, in-level D hy hg hs))
+      and (λ hy hz hw _. (in-total D hy hz hw, (λ _. in-total D (omega arith) hz hw, in-built D hy hz hw)))
+      and (λ _ hz hw _. (tt, λ a ha. in-built D ha hz hw))
+      and (λ hy hz hw _. (λ _. in-total D hy hz hw, λ _. in-total D hy hw hz))
       and tt
 
   pub inside : (r : Index) → Member (rowBoxes (D .counts)) r → Inside (equation D r)

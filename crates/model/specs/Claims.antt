@@ -16,11 +16,11 @@ use Rattle.model.specs.declared.Refusal.the-variants.{Storage}
 use Rattle.model.specs.declared.Answer.the-variants.{Accepted, Refused}
 use Rattle.model.specs.declared.Certificate.the-variants.{Issued}
 use Rattle.model.specs.Counts.{Counts}
-use Rattle.model.specs.Data.{Data, read, tableBoxes, demand, peak, isBattery, isVre, efficiency, hour, Z, G, Y, S}
-use Rattle.model.specs.Columns.{columnBoxes, columnNumber, entries, cap, build, retire, gen, reserve, trans, unmet, surplus, spinshort, firmshort, charge, level}
-use Rattle.model.specs.Families.{rowBoxes, equation}
+use Rattle.model.specs.Data.{Data, read, tableBoxes, demand, peak, isBattery, isVre, efficiency, lineLimit, lineAnnuity, hour, Z, G, Y, S}
+use Rattle.model.specs.Columns.{columnBoxes, columnNumber, entries, cap, build, retire, gen, reserve, trans, unmet, surplus, spinshort, firmshort, charge, level, builtLines, totalLines}
+use Rattle.model.specs.Families.{rowBoxes, row, equation}
 use Rattle.model.specs.Tests.{headFault, countsFault, lengthFault, entriesFault, dataFault, constant⁺, constant⁻, constants⁺, constants⁻}
-use Rattle.model.specs.Prices.{cost}
+use Rattle.model.specs.Prices.{yearWeight, price, cost}
 use Rattle.model.specs.Calls.{check, certify, costOf, post, posted}
 use Rattle.model.specs.Rival.{Rival, Bounds, Binds, RivalPlan, Cheaper}
 use Rattle.model.specs.Station.{Case, run, cases, firstCase, station, planOf, multipliersOf}
@@ -44,6 +44,10 @@ ListedRivals =
     (l : List ℕ) (N : ℕ) (plan : List ℕ) (ms : List ℤ) (c g : ℕ) → certify l N plan ms ≡ Issued c g
     → (M : ℕ) → 1 ≤ M → (rival : List ℕ) → RivalPlan l M rival
     → (pos M *ℤ (pos c -ℤ pos g)) ≤ℤ (pos N *ℤ pos (costOf l rival))
+
+-- a plan that check accepts is a rival plan at its own scale: what is proved of every rival plan holds of it
+abbrev pub AcceptedMeets : Type 0
+AcceptedMeets = (l : List ℕ) (N : ℕ) (plan : List ℕ) (c : ℕ) → check l N plan ≡ Accepted c → Rival (read l) N (entries (read l) plan)
 
 -- where the answered gap is 0 no rival plan is cheaper
 abbrev pub NoneCheaper : Type 0
@@ -127,6 +131,10 @@ pub record ColumnNumbers (D : Data) : Type 0 where
       ≡ 3 * (Y D * G D) + 2 * (Y D * G D * S D) + Y D * Z D * Z D * S D + 3 * (Y D * Z D * S D) + Y D * Z D + ((y * G D + g) * S D + s)
   pub ofLevel : (y g s : ℕ) → columnNumber D (level y g s)
       ≡ 3 * (Y D * G D) + 3 * (Y D * G D * S D) + Y D * Z D * Z D * S D + 3 * (Y D * Z D * S D) + Y D * Z D + ((y * G D + g) * S D + s)
+  pub ofBuiltLines : (y z w : ℕ) → columnNumber D (builtLines y z w)
+      ≡ 3 * (Y D * G D) + 4 * (Y D * G D * S D) + Y D * Z D * Z D * S D + 3 * (Y D * Z D * S D) + Y D * Z D + ((y * Z D + z) * Z D + w)
+  pub ofTotalLines : (y z w : ℕ) → columnNumber D (totalLines y z w)
+      ≡ 3 * (Y D * G D) + 4 * (Y D * G D * S D) + Y D * Z D * Z D * S D + 3 * (Y D * Z D * S D) + Y D * Z D + Y D * Z D * Z D + ((y * Z D + z) * Z D + w)
 
 -- Batteries, request (i)
 
@@ -176,6 +184,58 @@ abbrev pub DaysApart : Type 0
 DaysApart =
     (D : Data) (M L : ℕ) (x w : Index → ℕ) → Rival D M x → Rival D L w → (y g s : ℕ) → y < Y D → g < G D → s < S D
     → hour D s ≡ 0 → L * x (charge y g s) ≡ M * w (charge y g s) → L * x (gen y g s) ≡ M * w (gen y g s) → L * x (level y g s) ≡ M * w (level y g s)
+
+-- Cables, request (ii): in every plan that meets the rows, which may build fractions of a line
+
+-- total is the sum of the builds up to the year
+abbrev pub LinesBuilt : Type 0
+LinesBuilt =
+    (D : Data) (M : ℕ) (x : Index → ℕ) → Rival D M x → (y z w : ℕ) → y < Y D → z < Z D → w < Z D
+    → x (totalLines y z w) ≡ sum (y + 1) (λ v. x (builtLines v z w))
+
+-- it is the same in both directions of a pair
+abbrev pub LinesAlike : Type 0
+LinesAlike =
+    (D : Data) (M : ℕ) (x : Index → ℕ) → Rival D M x → (y z w : ℕ) → y < Y D → z < Z D → w < Z D
+    → x (totalLines y z w) ≡ x (totalLines y w z)
+
+-- and at most the line limit, in Mths as the plan is
+abbrev pub LinesLimited : Type 0
+LinesLimited =
+    (D : Data) (M : ℕ) (x : Index → ℕ) → Rival D M x → (y z w : ℕ) → y < Y D → z < Z D → w < Z D
+    → x (totalLines y z w) ≤ M * lineLimit D z w
+
+-- no line is built within one zone, over data that pass the tests
+pub record Unbuilt (x : Index → ℕ) (y z : ℕ) : Type 0 where
+  pub noBuilt : x (builtLines y z z) ≡ 0
+  pub noTotal : x (totalLines y z z) ≡ 0
+
+abbrev pub NoLineWithin : Type 0
+NoLineWithin =
+    (l : List ℕ) → dataFault l ≡ fine → (M : ℕ) (x : Index → ℕ) → Rival (read l) M x → (y z : ℕ) → y < Y (read l) → z < Z (read l) → Unbuilt x y z
+
+-- lines count neither in (21) nor in (64): they have no coefficient in a row of family 4 or 18
+pub record Uncounted (D : Data) (c : Index) : Type 0 where
+  pub firm⁺ : (y z : ℕ) → coefficient (equation D (row 4 y z 0 0) .positive) c ≡ 0
+  pub firm⁻ : (y z : ℕ) → coefficient (equation D (row 4 y z 0 0) .negative) c ≡ 0
+  pub capital⁺ : coefficient (equation D (row 18 0 0 0 0) .positive) c ≡ 0
+  pub capital⁻ : coefficient (equation D (row 18 0 0 0 0) .negative) c ≡ 0
+
+abbrev pub LinesUncounted : Type 0
+LinesUncounted = (D : Data) (y z w : ℕ) → Uncounted D (builtLines y z w) × Uncounted D (totalLines y z w)
+
+-- what the lines of one direction, and those of a pair, cost in a year
+abbrev pub linesCost : Data → (Index → ℕ) → ℕ → ℕ → ℕ → ℕ
+linesCost D x y z w = price D (builtLines y z w) * x (builtLines y z w) + price D (totalLines y z w) * x (totalLines y z w)
+
+abbrev pub pairCost : Data → (Index → ℕ) → ℕ → ℕ → ℕ → ℕ
+pairCost D x y z w = linesCost D x y z w + linesCost D x y w z
+
+-- a pair pays in a year W·annuity of the lower zone's direction times its total, once, in every plan
+abbrev pub PairPaysOnce : Type 0
+PairPaysOnce =
+    (D : Data) (x : Index → ℕ) (y z w : ℕ) → z < w
+    → pairCost D x y z w ≡ yearWeight D y * lineAnnuity D z w * x (totalLines y z w)
 
 -- the peak is the largest Demand of the year and zone: none is above it, and it is one of them
 pub record IsPeak (D : Data) (y z : ℕ) : Type 0 where

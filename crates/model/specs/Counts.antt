@@ -36,6 +36,7 @@ sets c =
     ∷ box (c .years) (c .zones) (c .zones) (c .seasons)     -- 15: y, z, z2, q
     ∷ box (c .years) (c .zones) (c .zones) 1                -- 16: y, z, z2
     ∷ box (c .years) 1 (c .fuels) 1                         -- 17: y, f
+    ∷ box 1 (c .zones) (c .zones) 1                         -- 18: z, z2
     ∷ []
 
 -- their codes by name
@@ -75,3 +76,5 @@ abbrev pub [yzz] : ℕ
 [yzz] = 16
 abbrev pub [yf] : ℕ
 [yf] = 17
+abbrev pub [zz] : ℕ
+[zz] = 18

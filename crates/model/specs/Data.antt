@@ -7,7 +7,7 @@ use lib.ListN.{length, getD}
 use Rattle.sums.specs.Sum.{sum, largest}
 use Rattle.sums.specs.declared.Box.{Box}
 use Rattle.sums.specs.Index.{Index, index, boxOf, count, number}
-use Rattle.model.specs.Counts.{Counts, sets, slicesOf, seasonLength, [yzs], [yz], [yg], [g], [one], [y], [s], [qd], [gq], [gs], [z], [yzzq], [yzz], [yf]}
+use Rattle.model.specs.Counts.{Counts, sets, slicesOf, seasonLength, [yzs], [yz], [yg], [g], [one], [y], [s], [qd], [gq], [gs], [z], [yzzq], [yzz], [yf], [zz]}
 
 -- the counts and, for a table's number and four indices, the entry there
 pub record Data : Type 0 where
@@ -145,6 +145,12 @@ module _ (D : Data) where
   efficiency g = D .entry 43 0 g 0 0
   abbrev pub energyCapacity : ℕ → ℕ
   energyCapacity g = D .entry 44 0 g 0 0
+  abbrev pub lineLimit : ℕ → ℕ → ℕ            -- [z,z2] from z to z2, as the two below
+  lineLimit z w = D .entry 45 0 z w 0
+  abbrev pub mwPerLine : ℕ → ℕ → ℕ
+  mwPerLine z w = D .entry 46 0 z w 0
+  abbrev pub lineAnnuity : ℕ → ℕ → ℕ
+  lineAnnuity z w = D .entry 47 0 z w 0
 
   -- what follows from them
   abbrev pub existing : ℕ → Bool
@@ -176,6 +182,10 @@ pub record Table : Type 0 where
 -- one range for all entries of a table
 abbrev pub all : ℕ → Range → Table
 all k r = record { set = k; range = λ D y i j s. r }
+
+-- an entry of a pair of zones, 0 within one zone
+abbrev pub betweenZones : ℕ → Table
+betweenZones k = record { set = k; range = λ D y z w s. either (eqb z w) (0 to 0) (0 to most32) }
 
 -- a range by plant
 abbrev pub byPlant : (Data → ℕ → Range) → Table
@@ -213,7 +223,7 @@ tables =
     ∷ all [yz] (0 to 5000)                                                  -- 26 EE, ‰
     ∷ all [yz] (0 to most32)                                                -- 27 SRes, MW
     ∷ all [z] (0 to 1000)                                                   -- 28 PRM, ‰
-    ∷ record { set = [yzzq]; range = λ D y z w q. either (eqb z w) (0 to 0) (0 to most32) }           -- 29 TL, MW, 0 where z = z2
+    ∷ betweenZones [yzzq]                                                   -- 29 TL, MW, 0 where z = z2
     ∷ all [yzz] (0 to 1000)                                                 -- 30 Loss, ‰
     ∷ all [yz] (0 to most32)                                                -- 31 zone cap, tons
     ∷ all [y] (0 to most32)                                                 -- 32 system cap, tons
@@ -229,11 +239,14 @@ tables =
     ∷ all [g] (0 to 1)                                                      -- 42 battery
     ∷ all [g] (0 to 1000)                                                   -- 43 efficiency, ‰
     ∷ all [g] (0 to most32)                                                 -- 44 energy capacity, kWh
+    ∷ betweenZones [zz]                                                     -- 45 line limit, lines, 0 where z = z2
+    ∷ betweenZones [zz]                                                     -- 46 MW per line, 0 where z = z2
+    ∷ betweenZones [zz]                                                     -- 47 line annuity, mills per line, 0 where z = z2
     ∷ []
 
 -- how many tables there are
 abbrev pub tableCount : ℕ
-tableCount = 45
+tableCount = 48
 
 unfoldable pub tableBoxes : Counts → List Box
 tableBoxes c = map (λ t. boxOf (sets c) (t .set)) tables

@@ -12,14 +12,14 @@ use Rattle.sums.specs.Index.{Index, index, boxOf, volume, members, number}
 use Rattle.sums.specs.Linear.{Linear, nothing, _·_, ∑, _⊕_, when}
 use Rattle.model.specs.declared.Family.{Family}
 use Rattle.model.specs.declared.Shape.{Shape}
-use Rattle.model.specs.Counts.{Counts, sets, [yzs], [yzzs], [yz], [ygs], [ygq], [yg], [g], [yzf], [one], [y]}
-use Rattle.model.specs.Data.{Data, rate, weight, duration, zone, fuel, genCap, year, maxNewCap, overLoad, resOffer, rampDn, rampUp, minCapFac, capCredit, heatRate, emission, availability, profile, annuity, demand, ee, sRes, prm, tl, loss, zoneCap, systemCap, maxFuel, buildLimit, err, maxCapital, Z, G, Q, Y, S, P, existing, candidate, season, afterFirstHour, onMinLoadDay, isVre, isBattery, efficiency, energyCapacity, peak}
-use Rattle.model.specs.Columns.{cap, build, retire, gen, reserve, trans, unmet, surplus, spinshort, firmshort, charge, level}
+use Rattle.model.specs.Counts.{Counts, sets, [yzs], [yzzs], [yz], [ygs], [ygq], [yg], [g], [yzf], [one], [y], [yzz], [zz]}
+use Rattle.model.specs.Data.{Data, rate, weight, duration, zone, fuel, genCap, year, maxNewCap, overLoad, resOffer, rampDn, rampUp, minCapFac, capCredit, heatRate, emission, availability, profile, annuity, demand, ee, sRes, prm, tl, loss, zoneCap, systemCap, maxFuel, buildLimit, err, maxCapital, Z, G, Q, Y, S, P, existing, candidate, season, afterFirstHour, onMinLoadDay, isVre, isBattery, efficiency, energyCapacity, lineLimit, mwPerLine, peak}
+use Rattle.model.specs.Columns.{cap, build, retire, gen, reserve, trans, unmet, surplus, spinshort, firmshort, charge, level, builtLines, totalLines}
 
 abbrev pub family : ℕ → ℕ → Bool → Family
 family n k e = record { equation = n; set = k; equal = e }
 
--- equation number, index set, equality
+-- equation number (0: the source has none), index set, equality
 abbrev pub families : List Family
 families =
     family 14 [yzs] true          -- 1
@@ -47,11 +47,14 @@ families =
     ∷ family 47 [ygs] false       -- 23
     ∷ family 48 [ygs] false       -- 24
     ∷ family 46 [ygs] false       -- 25
+    ∷ family 0 [yzz] true         -- 26, printed after (15) without a number, as the two below
+    ∷ family 0 [zz] false         -- 27
+    ∷ family 0 [yzz] true         -- 28
     ∷ []
 
 -- how many families there are
 abbrev pub familyCount : ℕ
-familyCount = 25
+familyCount = 28
 
 unfoldable pub familyOf : ℕ → Family
 familyOf k = getD families k (family 0 0 false)
@@ -95,6 +98,14 @@ only b e = record { positive = when b (e .positive); negative = when b (e .negat
 abbrev pub empty : Equation
 empty = record { positive = nothing; negative = nothing; plus = 0; minus = 0 }
 
+-- an upper limit: e ≤ most
+abbrev pub atMost : Linear → ℕ → Equation
+atMost e most = record { positive = nothing; negative = e; plus = most; minus = 0 }
+
+-- the column of the year before, nothing in the first year
+abbrev pub earlier : ℕ → (ℕ → Index) → Linear
+earlier y c = when (ltb 0 y) (1 · c (y - 1))
+
 module _ (D : Data) where
   -- the i-th slice of season q
   abbrev pub sliceOf : ℕ → ℕ → ℕ
@@ -132,14 +143,19 @@ module _ (D : Data) where
     minus = demand D y z s * ee D y z;
   }
 
-  -- 2 (15): trans ≤ TL
+  -- 2 (15): trans ≤ TL + MW per line·total
   unfoldable pub transfer : ℕ → ℕ → ℕ → ℕ → Equation
-  transfer y z w s = record { positive = nothing; negative = 1 · trans y z w s; plus = tl D y z w (season D s); minus = 0 }
+  transfer y z w s = record {
+    positive = mwPerLine D z w · totalLines y z w;
+    negative = 1 · trans y z w s;
+    plus = tl D y z w (season D s);
+    minus = 0;
+  }
 
-  -- 3 (19): 1000·Σ reserve in z + spinshort + 1000·Σ (TL[z2,z] − trans[z2,z]) ≥ 1000·SRes + Err·Σ gen of VRE in z
+  -- 3 (19): 1000·Σ reserve in z + spinshort + 1000·Σ (TL[z2,z] + MW per line[z2,z]·total[z2,z] − trans[z2,z]) ≥ 1000·SRes + Err·Σ gen of VRE in z
   unfoldable pub spinning : ℕ → ℕ → ℕ → Equation
   spinning y z s = record {
-    positive = inZone z (λ g. 1000 · reserve y g s) ⊕ 1 · spinshort y z s;
+    positive = inZone z (λ g. 1000 · reserve y g s) ⊕ 1 · spinshort y z s ⊕ others z (λ u. (1000 * mwPerLine D u z) · totalLines y u z);
     negative = others z (λ u. 1000 · trans y u z s) ⊕ inZone z (λ g. when (isVre D g) (err D · gen y g s));
     plus = 1000 * othersSum z (λ u. tl D y u z (season D s));
     minus = 1000 * sRes D y z;
@@ -201,7 +217,7 @@ module _ (D : Data) where
   unfoldable pub stock : ℕ → ℕ → Equation
   stock y g = record {
     positive = 1 · cap y g ⊕ when (existing D g && ltb 0 y) (1 · retire y g);
-    negative = when (ltb 0 y) (1 · cap (y - 1) g) ⊕ when (candidate D g) (1 · build y g);
+    negative = earlier y (λ x. cap x g) ⊕ when (candidate D g) (1 · build y g);
     plus = 0;
     minus = on (existing D g && eqb y 0) (genCap D g);
   }
@@ -224,47 +240,29 @@ module _ (D : Data) where
 
   -- 15 (55), candidate: Σ build ≤ MaxNewCap
   unfoldable pub newCapacity : ℕ → Equation
-  newCapacity g = only (candidate D g) (record { positive = nothing; negative = ∑ (Y D) (λ y. 1 · build y g); plus = maxNewCap D g; minus = 0 })
+  newCapacity g = only (candidate D g) (atMost (∑ (Y D) (λ y. 1 · build y g)) (maxNewCap D g))
 
   -- 16 (58), candidate: build ≤ BuildLimit·V
   unfoldable pub yearlyBuild : ℕ → ℕ → Equation
-  yearlyBuild y g = only (candidate D g) (record { positive = nothing; negative = 1 · build y g; plus = buildLimit D y * weight D y; minus = 0 })
+  yearlyBuild y g = only (candidate D g) (atMost (1 · build y g) (buildLimit D y * weight D y))
 
   -- 17 (62): Σ Dur·HeatRate·gen of that zone and fuel ≤ 1000·MaxFuel
   unfoldable pub fuelUse : ℕ → ℕ → ℕ → Equation
-  fuelUse y z f = record {
-    positive = nothing;
-    negative = inZone z (λ g. when (eqb (fuel D g) f) (∑ (S D) (λ s. (duration D s * heatRate D g) · gen y g s)));
-    plus = 1000 * maxFuel D y f;
-    minus = 0;
-  }
+  fuelUse y z f =
+      atMost (inZone z (λ g. when (eqb (fuel D g) f) (∑ (S D) (λ s. (duration D s * heatRate D g) · gen y g s)))) (1000 * maxFuel D y f)
 
   -- 18 (64): Σ R·V·Annuity·cap of candidates ≤ 10⁹·MaxCapital
   unfoldable pub capital : Equation
-  capital = record {
-    positive = nothing;
-    negative = ∑ (Y D) (λ y. ∑ (G D) (λ g. when (candidate D g) ((rate D y * weight D y * annuity D y g) · cap y g)));
-    plus = 10 ^ 9 * maxCapital D;
-    minus = 0;
-  }
+  capital =
+      atMost (∑ (Y D) (λ y. ∑ (G D) (λ g. when (candidate D g) ((rate D y * weight D y * annuity D y g) · cap y g)))) (10 ^ 9 * maxCapital D)
 
   -- 19 (66): Σ Dur·E·gen in z ≤ 1000·zone cap
   unfoldable pub zoneEmission : ℕ → ℕ → Equation
-  zoneEmission y z = record {
-    positive = nothing;
-    negative = inZone z (λ g. ∑ (S D) (λ s. (duration D s * emission D g) · gen y g s));
-    plus = 1000 * zoneCap D y z;
-    minus = 0;
-  }
+  zoneEmission y z = atMost (inZone z (λ g. ∑ (S D) (λ s. (duration D s * emission D g) · gen y g s))) (1000 * zoneCap D y z)
 
   -- 20 (68): Σ Dur·E·gen ≤ 1000·system cap
   unfoldable pub systemEmission : ℕ → Equation
-  systemEmission y = record {
-    positive = nothing;
-    negative = ∑ (G D) (λ g. ∑ (S D) (λ s. (duration D s * emission D g) · gen y g s));
-    plus = 1000 * systemCap D y;
-    minus = 0;
-  }
+  systemEmission y = atMost (∑ (G D) (λ g. ∑ (S D) (λ s. (duration D s * emission D g) · gen y g s))) (1000 * systemCap D y)
 
   -- 21 (42, 43), battery: level = level[s−1] (0 before a day's first slice) + Efficiency·charge − 1000·gen; a slice counts as one hour
   unfoldable pub batteryLevel : ℕ → ℕ → ℕ → Equation
@@ -289,7 +287,24 @@ module _ (D : Data) where
 
   -- 25 (46): battery: level ≤ energy capacity; any other plant: level ≤ 0
   unfoldable pub levelLimit : ℕ → ℕ → ℕ → Equation
-  levelLimit y g s = record { positive = nothing; negative = 1 · level y g s; plus = on (isBattery D g) (energyCapacity D g); minus = 0 }
+  levelLimit y g s = atMost (1 · level y g s) (on (isBattery D g) (energyCapacity D g))
+
+  -- 26: total = earlier total (0 in the first year) + built, within one zone too
+  unfoldable pub lineBalance : ℕ → ℕ → ℕ → Equation
+  lineBalance y z w = record {
+    positive = 1 · totalLines y z w;
+    negative = earlier y (λ x. totalLines x z w) ⊕ 1 · builtLines y z w;
+    plus = 0;
+    minus = 0;
+  }
+
+  -- 27: Σ built over the years ≤ line limit, within one zone too, where that is 0
+  unfoldable pub newLines : ℕ → ℕ → Equation
+  newLines z w = atMost (∑ (Y D) (λ y. 1 · builtLines y z w)) (lineLimit D z w)
+
+  -- 28, z below z2: total[z,z2] = total[z2,z]
+  unfoldable pub linesBothWays : ℕ → ℕ → ℕ → Equation
+  linesBothWays y z w = only (ltb z w) (record { positive = 1 · totalLines y z w; negative = 1 · totalLines y w z; plus = 0; minus = 0 })
 
   -- the row of each family at a year, a first and a second index and a slice
   abbrev pub equations : ℕ → ℕ → ℕ → ℕ → List Equation
@@ -319,9 +334,12 @@ module _ (D : Data) where
       ∷ chargeRise y i s
       ∷ chargeFall y i s
       ∷ levelLimit y i s
+      ∷ lineBalance y i j
+      ∷ newLines i j
+      ∷ linesBothWays y i j
       ∷ []
 
   -- opened with every family, so that a proof names one definition
   unfoldable pub equation : Index → Equation
-  unfolding balance transfer spinning firm loading offer rampDown rampUpward minimumLoad available profiled stock life fixed newCapacity yearlyBuild fuelUse capital zoneEmission systemEmission batteryLevel chargeLimit chargeRise chargeFall levelLimit
+  unfolding balance transfer spinning firm loading offer rampDown rampUpward minimumLoad available profiled stock life fixed newCapacity yearlyBuild fuelUse capital zoneEmission systemEmission batteryLevel chargeLimit chargeRise chargeFall levelLimit lineBalance newLines linesBothWays
   equation (index k y i j s) = getD (equations y i j s) k empty

@@ -1,11 +1,12 @@
 -- The prices of the columns, in millionths of a money unit, and the cost.
 use mathlib.Core.List.{List, [], _∷_}
 use Prim.Native.Nat.{ℕ, _+_, _*_}
+use lib.Dec.{ltb}
 use lib.ListN.{getD}
 use Rattle.sums.specs.Sum.{on}
 use Rattle.sums.specs.Span.{total}
 use Rattle.sums.specs.Index.{Index, index}
-use Rattle.model.specs.Data.{Data, rate, weight, duration, annuity, fixedOM, genCost, tax, emission, resCost, voll, surplusPenalty, sresVoLL, resVoLL, candidate}
+use Rattle.model.specs.Data.{Data, rate, weight, duration, annuity, fixedOM, genCost, tax, emission, resCost, voll, surplusPenalty, sresVoLL, resVoLL, candidate, lineAnnuity}
 use Rattle.model.specs.Columns.{columns}
 
 module _ (D : Data) where
@@ -28,6 +29,8 @@ module _ (D : Data) where
       ∷ yearWeight y * resVoLL D                                                              -- firmshort
       ∷ 0                                                                                     -- charge
       ∷ 0                                                                                     -- level
+      ∷ 0                                                                                     -- built
+      ∷ yearWeight y * on (ltb i j) (lineAnnuity D i j)                                       -- total: a pair pays once, with the lower zone first
       ∷ []
 
   unfoldable pub price : Index → ℕ

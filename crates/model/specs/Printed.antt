@@ -8,8 +8,8 @@ use Rattle.sums.specs.Sum.{sum, largest, on}
 use Rattle.sums.specs.Span.{total}
 use Rattle.sums.specs.Index.{Index}
 use Rattle.sums.specs.Linear.{coefficient}
-use Rattle.model.specs.Data.{Data, rate, weight, duration, minLoad, zone, fuel, vre, genCap, year, maxNewCap, overLoad, resOffer, rampDn, rampUp, minCapFac, capCredit, heatRate, emission, availability, profile, annuity, demand, ee, sRes, prm, tl, loss, zoneCap, systemCap, maxFuel, buildLimit, err, maxCapital, Z, G, F, Q, Y, S, P, T, battery, efficiency, energyCapacity, existing, candidate, season, day}
-use Rattle.model.specs.Columns.{columns, cap, build, retire, gen, reserve, trans, unmet, surplus, spinshort, firmshort, charge, level}
+use Rattle.model.specs.Data.{Data, rate, weight, duration, minLoad, zone, fuel, vre, genCap, year, maxNewCap, overLoad, resOffer, rampDn, rampUp, minCapFac, capCredit, heatRate, emission, availability, profile, annuity, demand, ee, sRes, prm, tl, loss, zoneCap, systemCap, maxFuel, buildLimit, err, maxCapital, Z, G, F, Q, Y, S, P, T, battery, efficiency, energyCapacity, lineLimit, mwPerLine, existing, candidate, season, day}
+use Rattle.model.specs.Columns.{columns, cap, build, retire, gen, reserve, trans, unmet, surplus, spinshort, firmshort, charge, level, builtLines, totalLines}
 use Rattle.model.specs.Families.{row, equation, equal, familyIn, familyOf}
 
 module _ (D : Data) (x : Index → ℕ) where
@@ -40,12 +40,12 @@ module _ (D : Data) (x : Index → ℕ) where
         (plantsIn z (λ g. 1000 * x (gen y g s)) + zonesBut z (λ u. (1000 - loss D y u z) * x (trans y u z s)) + 1 * x (unmet y z s))
         (plantsIn z (λ g. 1000 * x (charge y g s)) + zonesBut z (λ u. 1000 * x (trans y z u s)) + 1 * x (surplus y z s))
         0 (demand D y z s * ee D y z)
-    -- 2 (15): trans ≤ TL
+    -- 2 (15): trans ≤ TL + MW per line·total
     pub family2 : (y z w s : ℕ) → y < Y D → z < Z D → w < Z D → s < S D → Reads (row 2 y z w s) 15 false
-        0 (1 * x (trans y z w s)) (tl D y z w (s / P D)) 0
-    -- 3 (19): 1000·Σ reserve in z + spinshort + 1000·Σ (TL[z2,z] − trans[z2,z]) ≥ 1000·SRes + Err·Σ gen of VRE in z
+        (mwPerLine D z w * x (totalLines y z w)) (1 * x (trans y z w s)) (tl D y z w (s / P D)) 0
+    -- 3 (19): 1000·Σ reserve in z + spinshort + 1000·Σ (TL[z2,z] + MW per line[z2,z]·total[z2,z] − trans[z2,z]) ≥ 1000·SRes + Err·Σ gen of VRE in z
     pub family3 : (y z s : ℕ) → y < Y D → z < Z D → s < S D → Reads (row 3 y z 0 s) 19 false
-        (plantsIn z (λ g. 1000 * x (reserve y g s)) + 1 * x (spinshort y z s))
+        (plantsIn z (λ g. 1000 * x (reserve y g s)) + 1 * x (spinshort y z s) + zonesBut z (λ u. 1000 * mwPerLine D u z * x (totalLines y u z)))
         (zonesBut z (λ u. 1000 * x (trans y u z s)) + plantsIn z (λ g. on (eqb (vre D g) 1) (err D * x (gen y g s))))
         (1000 * zonesBut z (λ u. tl D y u z (s / P D))) (1000 * sRes D y z)
     -- 4 (21): Σ CapCredit·cap + firmshort + 1000·Σ TL[z2,z] over z2 and all seasons ≥ (1000 + PRM)·peak
@@ -121,3 +121,12 @@ module _ (D : Data) (x : Index → ℕ) where
     -- 25 (46): battery: level ≤ energy capacity; any other plant: level ≤ 0
     pub family25 : (y g s : ℕ) → y < Y D → g < G D → s < S D → Reads (row 25 y g 0 s) 46 false
         0 (1 * x (level y g s)) (on (eqb (battery D g) 1) (energyCapacity D g)) 0
+    -- 26, no number: total = earlier total (0 in the first year) + built, within one zone too
+    pub family26 : (y z w : ℕ) → y < Y D → z < Z D → w < Z D → Reads (row 26 y z w 0) 0 true
+        (1 * x (totalLines y z w)) (on (ltb 0 y) (1 * x (totalLines (y - 1) z w)) + 1 * x (builtLines y z w)) 0 0
+    -- 27, no number: Σ built over the years ≤ line limit, within one zone too
+    pub family27 : (z w : ℕ) → z < Z D → w < Z D → Reads (row 27 0 z w 0) 0 false
+        0 (sum (Y D) (λ y. 1 * x (builtLines y z w))) (lineLimit D z w) 0
+    -- 28, no number, z below z2: total[z,z2] = total[z2,z]
+    pub family28 : (y z w : ℕ) → y < Y D → z < Z D → w < Z D → Reads (row 28 y z w 0) 0 true
+        (on (ltb z w) (1 * x (totalLines y z w))) (on (ltb z w) (1 * x (totalLines y w z))) 0 0

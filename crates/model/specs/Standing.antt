@@ -8,7 +8,7 @@ use lib.ListN.{getD}
 use Rattle.sums.specs.Span.{total}
 use Rattle.sums.specs.Index.{Index, index, Member}
 use Rattle.sums.specs.Linear.{Linear, nothing, _·_, ∑, _⊕_, when, value, coefficient}
-use Rattle.model.specs.Data.{Data, rate, weight, duration, zone, fuel, overLoad, resOffer, rampDn, rampUp, minCapFac, capCredit, heatRate, emission, availability, profile, annuity, loss, err, Z, G, F, Q, Y, S, existing, candidate, season, afterFirstHour, onMinLoadDay, isVre, isBattery, efficiency}
+use Rattle.model.specs.Data.{Data, rate, weight, duration, zone, fuel, overLoad, resOffer, rampDn, rampUp, minCapFac, capCredit, heatRate, emission, availability, profile, annuity, loss, err, Z, G, F, Q, Y, S, existing, candidate, season, afterFirstHour, onMinLoadDay, isVre, isBattery, efficiency, mwPerLine}
 use Rattle.model.specs.Columns.{columnBoxes}
 use Rattle.model.specs.Families.{rows, row, equation, seasonSum, outOfService}
 
@@ -63,10 +63,17 @@ module _ (D : Data) where
   unfoldable pub levelIn⁺ : ℕ → ℕ → ℕ → Linear
   levelIn⁺ y g s = when (isBattery D g) (1 · row 21 y g 0 s)
 
+  -- the total of a direction in the rows of one slice: what may flow, and the receiving zone's reserve
+  unfoldable pub totalInSlice⁺ : ℕ → ℕ → ℕ → ℕ → Linear
+  totalInSlice⁺ y z w s = mwPerLine D z w · row 2 y z w s ⊕ when (not (eqb z w)) ((1000 * mwPerLine D z w) · row 3 y w 0 s)
+
+  unfoldable pub totalIn⁺ : ℕ → ℕ → ℕ → Linear
+  totalIn⁺ y z w = ∑ (S D) (totalInSlice⁺ y z w) ⊕ 1 · row 26 y z w 0 ⊕ when (ltb z w) (1 · row 28 y z w 0)
+
   unfoldable pub standing⁺ : Index → Linear
-  unfolding capInSlice⁺ capIn⁺ retireIn⁺ genIn⁺ reserveIn⁺ transIn⁺ chargeIn⁺ levelIn⁺
+  unfolding capInSlice⁺ capIn⁺ retireIn⁺ genIn⁺ reserveIn⁺ transIn⁺ chargeIn⁺ levelIn⁺ totalInSlice⁺ totalIn⁺
   standing⁺ (index k y i j s) =
-      getD (capIn⁺ y i ∷ nothing ∷ retireIn⁺ y i ∷ genIn⁺ y i s ∷ reserveIn⁺ y i s ∷ transIn⁺ y i j s ∷ 1 · row 1 y i 0 s ∷ nothing ∷ 1 · row 3 y i 0 s ∷ 1 · row 4 y i 0 0 ∷ chargeIn⁺ y i s ∷ levelIn⁺ y i s ∷ [])
+      getD (capIn⁺ y i ∷ nothing ∷ retireIn⁺ y i ∷ genIn⁺ y i s ∷ reserveIn⁺ y i s ∷ transIn⁺ y i j s ∷ 1 · row 1 y i 0 s ∷ nothing ∷ 1 · row 3 y i 0 s ∷ 1 · row 4 y i 0 0 ∷ chargeIn⁺ y i s ∷ levelIn⁺ y i s ∷ nothing ∷ totalIn⁺ y i j ∷ [])
       k nothing
 
   -- negative coefficients
@@ -115,10 +122,17 @@ module _ (D : Data) where
   unfoldable pub levelIn⁻ : ℕ → ℕ → ℕ → Linear
   levelIn⁻ y g s = when (isBattery D g) (when (afterFirstHour D (s + 1)) (1 · row 21 y g 0 (s + 1))) ⊕ 1 · row 25 y g 0 s
 
+  unfoldable pub builtIn⁻ : ℕ → ℕ → ℕ → Linear
+  builtIn⁻ y z w = 1 · row 26 y z w 0 ⊕ 1 · row 27 0 z w 0
+
+  -- the total of a year is what the next one starts from; from the higher zone it is the right side of the lower one's row
+  unfoldable pub totalIn⁻ : ℕ → ℕ → ℕ → Linear
+  totalIn⁻ y z w = when (ltb (y + 1) (Y D)) (1 · row 26 (y + 1) z w 0) ⊕ when (ltb w z) (1 · row 28 y w z 0)
+
   unfoldable pub standing⁻ : Index → Linear
-  unfolding capIn⁻ buildIn⁻ retireIn⁻ genIn⁻ reserveIn⁻ transIn⁻ chargeIn⁻ levelIn⁻
+  unfolding capIn⁻ buildIn⁻ retireIn⁻ genIn⁻ reserveIn⁻ transIn⁻ chargeIn⁻ levelIn⁻ builtIn⁻ totalIn⁻
   standing⁻ (index k y i j s) =
-      getD (capIn⁻ y i ∷ buildIn⁻ y i ∷ retireIn⁻ y i ∷ genIn⁻ y i s ∷ reserveIn⁻ y i s ∷ transIn⁻ y i j s ∷ nothing ∷ 1 · row 1 y i 0 s ∷ nothing ∷ nothing ∷ chargeIn⁻ y i s ∷ levelIn⁻ y i s ∷ [])
+      getD (capIn⁻ y i ∷ buildIn⁻ y i ∷ retireIn⁻ y i ∷ genIn⁻ y i s ∷ reserveIn⁻ y i s ∷ transIn⁻ y i j s ∷ nothing ∷ 1 · row 1 y i 0 s ∷ nothing ∷ nothing ∷ chargeIn⁻ y i s ∷ levelIn⁻ y i s ∷ builtIn⁻ y i j ∷ totalIn⁻ y i j ∷ [])
       k nothing
 
   -- the plants' zones and fuels are in range, as refusal 3 has it

@@ -3,6 +3,7 @@ use mathlib.Core.List.{List, [], _∷_, _++_, map}
 use Prim.Native.Nat.{ℕ, _-_}
 use lib.IntN.{ℤ, pos}
 use lib.ListN.{replicate}
+use Rattle.model.specs.Columns.{columnKindCount}
 use Rattle.model.specs.Families.{familyCount}
 use Rattle.model.specs.declared.Code.{Code}
 use Rattle.model.specs.Calls.{certify, certificateCode, code}
@@ -23,6 +24,7 @@ station =
     ∷ 0 ∷ 0 ∷ 0 ∷ 0 ∷ 0                                         -- zone cap, system cap, Tax, MaxFuel, BuildLimit
     ∷ 1000 ∷ 0 ∷ 0 ∷ 0 ∷ 0 ∷ 0                                  -- VOLL, SurplusPenalty, RESVoLL, SRESVoLL, Err, MaxCapital
     ∷ 0 ∷ 0 ∷ 0                                                 -- battery, efficiency, energy capacity
+    ∷ 0 ∷ 0 ∷ 0                                                 -- line limit, MW per line, line annuity
     ∷ []
 
 -- a case: the scale, the plan's cap, gen, unmet and surplus, row 0's multiplier, and the outcome
@@ -36,7 +38,7 @@ pub record Case : Type 0 where
   pub outcome : Code
 
 abbrev pub planOf : Case → List ℕ
-planOf k = k .cap ∷ 0 ∷ 0 ∷ k .gen ∷ 0 ∷ 0 ∷ k .unmet ∷ k .surplus ∷ 0 ∷ 0 ∷ 0 ∷ 0 ∷ []
+planOf k = k .cap ∷ 0 ∷ 0 ∷ k .gen ∷ 0 ∷ 0 ∷ k .unmet ∷ k .surplus ∷ replicate (columnKindCount - 8) 0
 
 abbrev pub multipliersOf : Case → List ℤ
 multipliersOf k = pos (k .multiplier) ∷ replicate (familyCount - 1) (pos 0)

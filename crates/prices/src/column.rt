@@ -1,11 +1,13 @@
 // The price of a column in two factors: the price of a unit, or of a unit's hour, which does not change along the slices; and the hours.
 use capped::Sum;
 use crate::hour_price;
+use crate::line_price;
 use crate::yearly_price;
 use model::Counts;
 use tables::entries::by_slice;
 use tables::entries::single;
 use tables::names::BUILD;
+use tables::names::BUILT_LINES;
 use tables::names::CAP;
 use tables::names::CHARGE;
 use tables::names::DURATION;
@@ -13,6 +15,7 @@ use tables::names::FIRMSHORT;
 use tables::names::LEVEL;
 use tables::names::RES_VOLL;
 use tables::names::RETIRE;
+use tables::names::TOTAL_LINES;
 use tables::names::TRANS;
 use tables::starts::Starts;
 use terms::plants::year_weight;
@@ -24,12 +27,12 @@ ghost use Rattle.model.specs.Counts.{sets};
 ghost use Rattle.model.specs.Data.{read};
 ghost use Rattle.model.specs.Columns.{columnKindCount};
 ghost use Rattle.tables.specs.Layout.{TablesAt};
-ghost use Rattle.prices.specs.Costs.{setOf, firstsOf, unitPrice, hoursOf};
+ghost use Rattle.prices.specs.Costs.{setOf, firstsOf, secondsOf, unitPrice, hoursOf};
 
-// Of table k, year y, plant or zone i. Build, retire, trans, charge and level have no price.
-pub fn unit_price(data: &[u32], tables_at: &Starts, c: Counts, k: usize, y: usize, i: usize) -> Sum
-    requires { ⌜ TablesAt (now «data») (now «tables_at») c × ((k < columnKindCount) × ((y < c .years) × (i < firstsOf c k))) ⌝ }
-    ensures { λ r. ⌜ r ≡ cap (unitPrice (read (now («data» .entry))) k y i) ⌝ }
+// Of table k, year y, plant or zone i, second zone j. Build, retire, trans, charge, level and built have no price.
+pub fn unit_price(data: &[u32], tables_at: &Starts, c: Counts, k: usize, y: usize, i: usize, j: usize) -> Sum
+    requires { ⌜ TablesAt (now «data») (now «tables_at») c × ((k < columnKindCount) × ((y < c .years) × ((i < firstsOf c k) × (j < secondsOf c k)))) ⌝ }
+    ensures { λ r. ⌜ r ≡ cap (unitPrice (read (now («data» .entry))) k y i j) ⌝ }
 {
     let share = year_weight(data, tables_at, c, y);
     match k {
@@ -40,6 +43,8 @@ pub fn unit_price(data: &[u32], tables_at: &Starts, c: Counts, k: usize, y: usiz
         FIRMSHORT => capped::product(share, single(data, tables_at, c, RES_VOLL)),
         CHARGE => capped::zero(),
         LEVEL => capped::zero(),
+        BUILT_LINES => capped::zero(),
+        TOTAL_LINES => capped::product(share, line_price(data, tables_at, c, i, j)),
         // the tables priced by the hour
         _ => capped::scale(hour_price(data, tables_at, c, k, y, i), share),
     }
@@ -58,6 +63,8 @@ pub fn hours_of(data: &[u32], tables_at: &Starts, c: Counts, k: usize, s: usize)
         FIRMSHORT => 1,
         CHARGE => 1,
         LEVEL => 1,
+        BUILT_LINES => 1,
+        TOTAL_LINES => 1,
         _ => by_slice(data, tables_at, c, DURATION, s),
     }
 }

@@ -2,13 +2,14 @@
 pub mod column;
 
 use capped::Sum;
+use column::unit_price;
 use model::Counts;
+use tables::entries::by_pair;
 use tables::entries::by_plant;
 use tables::entries::by_slice;
 use tables::entries::by_year;
 use tables::entries::by_year_plant;
-use tables::entries::planned_by_year_plant;
-use tables::entries::planned_by_year_zone;
+use tables::entries::planned_in;
 use tables::entries::single;
 use tables::entries::wide;
 use tables::names::ANNUITY;
@@ -20,14 +21,15 @@ use tables::names::FIXED_OM;
 use tables::names::GEN;
 use tables::names::GEN_COST;
 use tables::names::KIND;
+use tables::names::LINE_ANNUITY;
 use tables::names::RESERVE;
 use tables::names::RES_COST;
-use tables::names::RES_VOLL;
 use tables::names::SPINSHORT;
 use tables::names::SRES_VOLL;
 use tables::names::SURPLUS;
 use tables::names::SURPLUS_PENALTY;
 use tables::names::TAX;
+use tables::names::TOTAL_LINES;
 use tables::names::UNMET;
 use tables::names::VOLL;
 use tables::sets::inside_of;
@@ -38,15 +40,16 @@ use tables::starts::column_set;
 use terms::plants::year_weight;
 ghost use mathlib.Core.Path.{_≡_};
 ghost use Prim.Native.Nat.{ℕ, _+_, _*_, _≤_, _<_};
+ghost use lib.Dec.{ltb};
 ghost use lib.ListN.{length, getD, take, drop};
 ghost use Rattle.capped.specs.Cap.{cap};
 ghost use Rattle.sums.specs.Sum.{sum, on};
 ghost use Rattle.sums.specs.Index.{index};
 ghost use Rattle.model.specs.Counts.{slicesOf};
-ghost use Rattle.model.specs.Data.{read, duration, fixedOM, annuity, candidate};
+ghost use Rattle.model.specs.Data.{read, duration, fixedOM, annuity, candidate, lineAnnuity};
 ghost use Rattle.model.specs.Prices.{cost};
 ghost use Rattle.tables.specs.Layout.{TablesAt, ColumnsAt, planEntry};
-ghost use Rattle.prices.specs.Costs.{Hourly, Hours, firstsOf, hourPrice, capCost, slicesCost, hourlyCost, hoursCost, firmshortCost, yearCost};
+ghost use Rattle.prices.specs.Costs.{Hourly, Yearly, Hours, firstsOf, hourPrice, slicesCost, hourlyCost, hoursCost, unitsCost, yearlyCost, yearCost};
 
 // FixedOM, and for a candidate the annuity: mills per MW and year.
 pub fn yearly_price(data: &[u32], tables_at: &Starts, c: Counts, y: usize, g: usize) -> u64
@@ -60,42 +63,15 @@ pub fn yearly_price(data: &[u32], tables_at: &Starts, c: Counts, y: usize, g: us
     fixed + by_year_plant(data, tables_at, c, ANNUITY, y, g)
 }
 
-// Σ price·cap in year y.
-fn cap_cost(data: &[u32], plan: &[u32], tables_at: &Starts, columns_at: &Starts, c: Counts, y: usize) -> Sum
-    requires { ⌜ TablesAt (now «data») (now «tables_at») c × (ColumnsAt (now plan) (now «columns_at») c × (y < c .years)) ⌝ }
-    ensures { λ r. ⌜ r ≡ cap (capCost (read (now («data» .entry))) c (planEntry c (now (plan .entry))) y) ⌝ }
+// The annuity that a line from zone z to zone w pays: that of the pair, once, where z is the lower zone; mills per line and year.
+pub fn line_price(data: &[u32], tables_at: &Starts, c: Counts, z: usize, w: usize) -> u64
+    requires { ⌜ TablesAt (now «data») (now «tables_at») c × ((z < c .zones) × (w < c .zones)) ⌝ }
+    ensures { λ r. ⌜ r ≡ on (ltb z w) (lineAnnuity (read (now («data» .entry))) z w) ⌝ }
 {
-    let share = year_weight(data, tables_at, c, y);
-    let mut total = capped::zero();
-    for g in 0..c.plants {
-        let price = yearly_price(data, tables_at, c, y, g);
-        total = capped::add_product3(
-            total,
-            share,
-            price,
-            planned_by_year_plant(plan, columns_at, c, CAP, y, g),
-        );
+    if z < w {
+        return by_pair(data, tables_at, c, LINE_ANNUITY, z, w);
     }
-    total
-}
-
-// Σ price·firmshort in year y.
-fn firmshort_cost(data: &[u32], plan: &[u32], tables_at: &Starts, columns_at: &Starts, c: Counts, y: usize) -> Sum
-    requires { ⌜ TablesAt (now «data») (now «tables_at») c × (ColumnsAt (now plan) (now «columns_at») c × (y < c .years)) ⌝ }
-    ensures { λ r. ⌜ r ≡ cap (firmshortCost (read (now («data» .entry))) c (planEntry c (now (plan .entry))) y) ⌝ }
-{
-    let share = year_weight(data, tables_at, c, y);
-    let price = single(data, tables_at, c, RES_VOLL);
-    let mut total = capped::zero();
-    for z in 0..c.zones {
-        total = capped::add_product3(
-            total,
-            share,
-            price,
-            planned_by_year_zone(plan, columns_at, c, FIRMSHORT, y, z),
-        );
-    }
-    total
+    0
 }
 
 // The price of an hour without the factor W: of gen by plant and year, of reserve by plant, of the others one figure.
@@ -188,14 +164,47 @@ fn hours_cost(data: &[u32], plan: &[u32], tables_at: &Starts, columns_at: &Start
     )
 }
 
-// Σ price·entry in year y; build, retire and trans have no price.
+// Σ price·entry of plant or zone i in year y, over the second zones where the table has them, of a table priced by the year.
+fn units_cost(data: &[u32], plan: &[u32], tables_at: &Starts, columns_at: &Starts, c: Counts, t: usize, y: usize, i: usize) -> Sum
+    requires { ⌜ TablesAt (now «data») (now «tables_at») c × (ColumnsAt (now plan) (now «columns_at») c × (Yearly t × ((y < c .years) × (i < firstsOf c t)))) ⌝ }
+    ensures { λ r. ⌜ r ≡ cap (unitsCost (read (now («data» .entry))) c (planEntry c (now (plan .entry))) t y i) ⌝ }
+{
+    let k = column_set(t);
+    let b = column_box(c, t);
+    let mut total = capped::zero();
+    for j in 0..b.seconds {
+        let unit = unit_price(data, tables_at, c, t, y, i, j);
+        let units = planned_in(plan, columns_at, c, t, k, y, i, j, 0);
+        total = capped::join(total, capped::scale(unit, units));
+    }
+    total
+}
+
+// Σ price·entry of a table priced by the year, in year y.
+fn yearly_cost(data: &[u32], plan: &[u32], tables_at: &Starts, columns_at: &Starts, c: Counts, t: usize, y: usize) -> Sum
+    requires { ⌜ TablesAt (now «data») (now «tables_at») c × (ColumnsAt (now plan) (now «columns_at») c × (Yearly t × (y < c .years))) ⌝ }
+    ensures { λ r. ⌜ r ≡ cap (yearlyCost (read (now («data» .entry))) c (planEntry c (now (plan .entry))) t y) ⌝ }
+{
+    let b = column_box(c, t);
+    let mut total = capped::zero();
+    for i in 0..b.firsts {
+        total = capped::join(total, units_cost(data, plan, tables_at, columns_at, c, t, y, i));
+    }
+    total
+}
+
+// Σ price·entry in year y; build, retire, trans, charge, level and built have no price.
 fn year_cost(data: &[u32], plan: &[u32], tables_at: &Starts, columns_at: &Starts, c: Counts, y: usize) -> Sum
     requires { ⌜ TablesAt (now «data») (now «tables_at») c × (ColumnsAt (now plan) (now «columns_at») c × (y < c .years)) ⌝ }
     ensures { λ r. ⌜ r ≡ cap (yearCost (read (now («data» .entry))) c (planEntry c (now (plan .entry))) y) ⌝ }
 {
-    let fixed = cap_cost(data, plan, tables_at, columns_at, c, y);
+    let fixed = yearly_cost(data, plan, tables_at, columns_at, c, CAP, y);
     let with_hours = capped::join(fixed, hours_cost(data, plan, tables_at, columns_at, c, y));
-    capped::join(with_hours, firmshort_cost(data, plan, tables_at, columns_at, c, y))
+    let with_firmshort = capped::join(with_hours, yearly_cost(data, plan, tables_at, columns_at, c, FIRMSHORT, y));
+    capped::join(
+        with_firmshort,
+        yearly_cost(data, plan, tables_at, columns_at, c, TOTAL_LINES, y),
+    )
 }
 
 // Σ price·entry over all columns.

@@ -42,6 +42,9 @@ module _ (c : Counts) {k : ℕ} {b : Box} (l : k < columnKindCount) (e : b ≡ b
   pub first-below : {i : ℕ} → i < b .firsts → i < boxOf (sets c) (getD columnSets k 0) .firsts
   first-below h = rw (← e) h
 
+  pub second-below : {j : ℕ} → j < b .seconds → j < boxOf (sets c) (getD columnSets k 0) .seconds
+  second-below h = rw (← e) h
+
   pub year-below : {y : ℕ} → Counted c → y < b .years → y < c .years
   year-below n hy = members.year-below (getD columnSets k 0) n e hy
 

@@ -70,7 +70,7 @@ two-sums u d p column =
 
 -- a column's verdict is the document's test of it
 pub verdict-is : (D : Data) (ms : List ℤ) (p : Place) {v : Pair} {unit whole : Sum} {hours column : ℕ} → p .kind < columnKindCount
-    → v ≡ pricedPair D ms (indexOf p) → unit ≡ cap (unitPrice D (p .kind) (p .year) (p .first)) → hours ≡ hoursOf D (p .kind) (p .slice) → whole ≡ times unit hours
+    → v ≡ pricedPair D ms (indexOf p) → unit ≡ cap (unitPrice D (p .kind) (p .year) (p .first) (p .second)) → hours ≡ hoursOf D (p .kind) (p .slice) → whole ≡ times unit hours
     → column ≡ columnNumber D (indexOf p) → verdictOf v whole column ≡ outcome (columnFault D ms (indexOf p))
 unfolding pricedPair columnFault
 verdict-is D ms p l a e h q n =

@@ -59,7 +59,7 @@ fn verdict(sums: Pair, price: Sum, column: usize) -> Outcome
 // The test of column p, whose number is `column`; `unit` is the price of its unit, or of a unit's hour.
 fn test_column(data: &[u32], ms: &[i64], tables_at: &Starts, rows_at: &RowStarts, c: Counts, p: Place, unit: Sum, column: usize) -> Outcome
     requires { ⌜ Ready (now «data») (now «tables_at») (now ms) (now «rows_at») c × (Member (columnBoxes c) (indexOf p)
-        × ((unit ≡ cap (unitPrice (read (now «data»)) (p .kind) (p .year) (p .first))) × (column ≡ number (columnBoxes c) (indexOf p)))) ⌝ }
+        × ((unit ≡ cap (unitPrice (read (now «data»)) (p .kind) (p .year) (p .first) (p .second))) × (column ≡ number (columnBoxes c) (indexOf p)))) ⌝ }
     ensures { λ r. ⌜ r ≡ outcome (columnFault (read (now («data» .entry))) (now (ms .entry)) (indexOf p)) ⌝ }
 {
     let sums = column_sums(data, ms, tables_at, rows_at, c, p);
@@ -78,8 +78,8 @@ pub fn test_columns(data: &[u32], ms: &[i64], tables_at: &Starts, rows_at: &RowS
         let b = column_box(c, k);
         for y in 0..b.years {
             for i in 0..b.firsts {
-                let unit = unit_price(data, tables_at, c, k, y, i);
                 for j in 0..b.seconds {
+                    let unit = unit_price(data, tables_at, c, k, y, i, j);
                     for s in 0..b.slices {
                         let p = Place { kind: k, year: y, first: i, second: j, slice: s };
                         match test_column(data, ms, tables_at, rows_at, c, p, unit, column) {

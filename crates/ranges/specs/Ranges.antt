@@ -75,4 +75,7 @@ fixed =
     ∷ flag            -- 42 battery
     ∷ perMille        -- 43 efficiency
     ∷ anyNumber       -- 44 energy capacity
+    ∷ byIndex         -- 45 line limit
+    ∷ byIndex         -- 46 MW per line
+    ∷ byIndex         -- 47 line annuity
     ∷ []

@@ -3,7 +3,10 @@ use model::Counts;
 use model::TABLE_COUNT;
 use tables::names::FUEL;
 use tables::names::GEN_CAP;
+use tables::names::LINE_ANNUITY;
+use tables::names::LINE_LIMIT;
 use tables::names::MAX_NEW_CAP;
+use tables::names::MW_PER_LINE;
 use tables::names::TL;
 use tables::names::YEAR;
 use tables::names::ZONE;
@@ -87,6 +90,9 @@ const FIXED: [Range; TABLE_COUNT] = [
     FLAG, // 42 battery
     PER_MILLE, // 43 efficiency
     ANY, // 44 energy capacity
+    BY_INDEX, // 45 line limit
+    BY_INDEX, // 46 MW per line
+    BY_INDEX, // 47 line annuity
 ];
 
 fn fixed_range(t: usize) -> Range
@@ -154,6 +160,9 @@ pub fn range_at(data: &[u32], tables_at: &Starts, c: Counts, t: usize, i: usize,
         YEAR => plant_year(is_existing(data, tables_at, c, i), c.years),
         MAX_NEW_CAP => none_if(is_existing(data, tables_at, c, i)),
         TL => none_if(i == j),
+        LINE_LIMIT => none_if(i == j),
+        MW_PER_LINE => none_if(i == j),
+        LINE_ANNUITY => none_if(i == j),
         _ => fixed_range(t),
     }
 }

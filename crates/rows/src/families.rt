@@ -1,5 +1,8 @@
 // The two sums of any row: its family decides which.
 use crate::Sides;
+use crate::cables::line_balance;
+use crate::cables::lines_both_ways;
+use crate::cables::new_lines;
 use crate::dispatch::FALL;
 use crate::dispatch::RISE;
 use crate::dispatch::available;
@@ -38,10 +41,13 @@ use tables::families::CHARGE_RISE;
 use tables::families::FIRM;
 use tables::families::FIXED;
 use tables::families::FUEL_USE;
+use tables::families::LEVEL_LIMIT;
 use tables::families::LIFE;
+use tables::families::LINE_BALANCE;
 use tables::families::LOADING;
 use tables::families::MINIMUM_LOAD;
 use tables::families::NEW_CAPACITY;
+use tables::families::NEW_LINES;
 use tables::families::OFFER;
 use tables::families::PROFILED;
 use tables::families::RAMP_DOWN;
@@ -102,7 +108,10 @@ pub fn row_sides(
         CHARGE_LIMIT => charge_limit(data, plan, charges, tables_at, columns_at, c, y, i, s),
         CHARGE_RISE => charge_ramp(data, plan, charges, tables_at, columns_at, c, RAMP_DN, RISE, y, i, s),
         CHARGE_FALL => charge_ramp(data, plan, charges, tables_at, columns_at, c, RAMP_UP, FALL, y, i, s),
-        // LEVEL_LIMIT
-        _ => level_limit(data, levels, tables_at, c, scale, y, i, s),
+        LEVEL_LIMIT => level_limit(data, levels, tables_at, c, scale, y, i, s),
+        LINE_BALANCE => line_balance(plan, columns_at, c, y, i, j),
+        NEW_LINES => new_lines(data, plan, tables_at, columns_at, c, scale, i, j),
+        // LINES_BOTH_WAYS
+        _ => lines_both_ways(plan, columns_at, c, y, i, j),
     }
 }

@@ -3,7 +3,6 @@ use crate::Sides;
 use crate::two_sums::at_most;
 use crate::two_sums::empty;
 use crate::two_sums::with_constant;
-use capped::Sum;
 use constants::fleet::capital_constant;
 use constants::fleet::fuel_use_constant;
 use constants::fleet::new_capacity_constant;
@@ -24,21 +23,20 @@ use tables::names::CAP;
 use tables::names::KIND;
 use tables::names::RETIRE;
 use tables::names::YEAR;
+use tables::sets::BY_YEAR_PLANT;
 use tables::starts::Starts;
-use terms::plants::build_sum;
 use terms::plants::capital_sum;
+use terms::years::earlier;
+use terms::years::over_years;
 ghost use mathlib.Core.Path.{_≡_};
 ghost use mathlib.Core.Bool.{not, _&&_, _||_};
-ghost use Prim.Native.Nat.{ℕ, _+_, _*_, _-_, _<_};
+ghost use Prim.Native.Nat.{ℕ, _+_, _<_};
 ghost use lib.Dec.{eqb, leb, ltb};
 ghost use lib.ListN.{length};
-ghost use Rattle.capped.specs.Cap.{cap};
-ghost use Rattle.sums.specs.Sum.{on};
 ghost use Rattle.sums.specs.Index.{Index};
 ghost use Rattle.model.specs.Data.{read};
 ghost use Rattle.model.specs.Families.{row};
-ghost use Rattle.model.specs.Columns.{cap as capColumn};
-ghost use Rattle.tables.specs.Layout.{Counted, TablesAt, ColumnsAt, planEntry};
+ghost use Rattle.tables.specs.Layout.{TablesAt, ColumnsAt, planEntry};
 ghost use Rattle.energy.specs.Energies.{Energies, energyCount};
 ghost use Rattle.rows.specs.Ready.{sidesOf};
 
@@ -48,23 +46,23 @@ pub fn stock(data: &[u32], plan: &[u32], tables_at: &Starts, columns_at: &Starts
     ensures { λ r. ⌜ r ≡ sidesOf (read (now («data» .entry))) scale (planEntry c (now (plan .entry))) (row 12 y g 0 0) ⌝ }
 {
     let own = capped::product(1, planned_by_year_plant(plan, columns_at, c, CAP, y, g));
-    let earlier = earlier_cap(plan, columns_at, c, y, g);
+    let before = earlier(plan, columns_at, c, CAP, BY_YEAR_PLANT, y, g, 0);
     if by_plant(data, tables_at, c, KIND, g) != 0 {
         return Sides {
             above: own,
             below: capped::add_product(
-                earlier,
+                before,
                 1,
                 planned_by_year_plant(plan, columns_at, c, BUILD, y, g),
             ),
         };
     }
     if y == 0 {
-        return with_constant(own, earlier, scale, stock_constant(data, tables_at, c, y, g));
+        return with_constant(own, before, scale, stock_constant(data, tables_at, c, y, g));
     }
     Sides {
         above: capped::add_product(own, 1, planned_by_year_plant(plan, columns_at, c, RETIRE, y, g)),
-        below: earlier,
+        below: before,
     }
 }
 
@@ -114,7 +112,7 @@ pub fn new_capacity(data: &[u32], plan: &[u32], tables_at: &Starts, columns_at: 
         return empty();
     }
     at_most(
-        build_sum(plan, columns_at, c, g),
+        over_years(plan, columns_at, c, BUILD, BY_YEAR_PLANT, g, 0),
         scale,
         new_capacity_constant(data, tables_at, c, g),
     )
@@ -181,17 +179,6 @@ pub fn system_emission(data: &[u32], energy: &EnergyTable, tables_at: &Starts, c
         scale,
         system_emission_constant(data, tables_at, c, y),
     )
-}
-
-// The capacity of the year before, 0 before the first.
-fn earlier_cap(plan: &[u32], columns_at: &Starts, c: Counts, y: usize, g: usize) -> Sum
-    requires { ⌜ Counted c × (ColumnsAt (now plan) (now «columns_at») c × ((y < c .years) × (g < c .plants))) ⌝ }
-    ensures { λ r. ⌜ r ≡ cap (on (ltb 0 y) (1 * planEntry c (now (plan .entry)) (capColumn (y - 1) g))) ⌝ }
-{
-    if 0 < y {
-        return capped::product(1, planned_by_year_plant(plan, columns_at, c, CAP, y - 1, g));
-    }
-    capped::zero()
 }
 
 // Whether a plant of this kind and year of retirement or commission may have capacity in year y, counted from 0.

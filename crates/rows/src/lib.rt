@@ -1,4 +1,5 @@
 // The rows of every family on a plan: the two sums of each.
+pub mod cables;
 pub mod dispatch;
 pub mod families;
 pub mod fleet;

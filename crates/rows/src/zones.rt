@@ -1,6 +1,5 @@
 // Families 1 to 4: the rows of a zone.
 use crate::Sides;
-use crate::two_sums::at_most;
 use crate::two_sums::with_constant;
 use capped::Sum;
 use constants::zones::balance_constant;
@@ -9,20 +8,25 @@ use constants::zones::spinning_constant;
 use constants::zones::transfer_constant;
 use model::Counts;
 use parts::slices::long;
+use tables::entries::by_pair;
+use tables::entries::planned_by_link;
 use tables::entries::planned_by_link_slice;
 use tables::entries::planned_by_year_zone;
 use tables::entries::planned_by_zone_slice;
 use tables::entries::single;
 use tables::names::ERR;
 use tables::names::FIRMSHORT;
+use tables::names::MW_PER_LINE;
 use tables::names::SPINSHORT;
 use tables::names::SURPLUS;
+use tables::names::TOTAL_LINES;
 use tables::names::TRANS;
 use tables::names::UNMET;
 use tables::starts::Starts;
 use terms::links::INWARD;
 use terms::links::OUTWARD;
 use terms::links::flows;
+use terms::links::lines_into;
 use terms::links::received;
 use terms::plants::credit_sum;
 use terms::plants::vre_sum;
@@ -75,7 +79,7 @@ fn in_zone(
     )
 }
 
-// 2 (15): trans ≤ TL
+// 2 (15): trans ≤ TL + MW per line·total
 pub fn transfer(
     data: &[u32], plan: &[u32], tables_at: &Starts, columns_at: &Starts, c: Counts, scale: u64, y: usize, z: usize,
     w: usize, s: usize,
@@ -83,11 +87,13 @@ pub fn transfer(
     requires { ⌜ (TablesAt (now «data») (now «tables_at») c × ColumnsAt (now plan) (now «columns_at») c) × ((y < c .years) × ((z < c .zones) × ((w < c .zones) × (s < slicesOf c)))) ⌝ }
     ensures { λ r. ⌜ r ≡ sidesOf (read (now («data» .entry))) scale (planEntry c (now (plan .entry))) (row 2 y z w s) ⌝ }
 {
+    let power = by_pair(data, tables_at, c, MW_PER_LINE, z, w);
+    let lines = capped::product(power, planned_by_link(plan, columns_at, c, TOTAL_LINES, y, z, w));
     let flow = capped::product(1, planned_by_link_slice(plan, columns_at, c, TRANS, y, z, w, s));
-    at_most(flow, scale, transfer_constant(data, tables_at, c, y, z, w, s))
+    with_constant(lines, flow, scale, transfer_constant(data, tables_at, c, y, z, w, s))
 }
 
-// 3 (19): 1000·Σ reserve in z + spinshort + 1000·Σ (TL[z2,z] − trans[z2,z]) ≥ 1000·SRes + Err·Σ gen of VRE in z
+// 3 (19): 1000·Σ reserve in z + spinshort + 1000·Σ (TL[z2,z] + MW per line[z2,z]·total[z2,z] − trans[z2,z]) ≥ 1000·SRes + Err·Σ gen of VRE in z
 pub fn spinning(
     data: &[u32], plan: &[u32], outputs: &[u32], reserves: &[u32], tables_at: &Starts, columns_at: &Starts, c: Counts,
     scale: u64, y: usize, z: usize, s: usize,
@@ -96,11 +102,12 @@ pub fn spinning(
     ensures { λ r. ⌜ r ≡ sidesOf (read (now («data» .entry))) scale (planEntry c (now (plan .entry))) (row 3 y z 0 s) ⌝ }
 {
     let held = zone_sum(data, tables_at, c, reserves, long(z), s);
-    let above = capped::add_product(
+    let with_short = capped::add_product(
         held,
         1,
         planned_by_zone_slice(plan, columns_at, c, SPINSHORT, y, z, s),
     );
+    let above = capped::join(with_short, lines_into(data, plan, tables_at, columns_at, c, y, z));
     let err = single(data, tables_at, c, ERR);
     let below = capped::join(
         flows(plan, columns_at, c, INWARD, y, z, s),

@@ -3,7 +3,7 @@ use mathlib.Core.Bool.{Bool, cond}
 use mathlib.Core.List.{List, _++_}
 use Prim.Native.Nat.{ℕ, _-_}
 use Prim.Native.String.{String}
-use lib.Dec.{ltb}
+use lib.Dec.{eqb, ltb}
 use lib.IntN.{ℤ, pos}
 use lib.ListN.{getD}
 use Rattle.compared.specs.declared.Amount.{Amount}
@@ -60,9 +60,13 @@ lengthWords list has must = list ++ (with " has " has ++ (with " numbers and mus
 
 -- Rows
 
+-- a family's equation number in the source; a family that has none there is told by its name alone
+unfoldable pub equationWords : ℕ → List ℕ
+equationWords n = cond (eqb n 0) (bytes ", ") (with ", equation (" n ++ bytes ") ")
+
 -- a row's number, equation with its name, and indices
 unfoldable pub rowWords : Counts → ℕ → Index → List ℕ
-rowWords c n r = with "row " n ++ (with ", equation (" (familyOf (familyIn r) .equation) ++ (bytes ") " ++ (nameAt familyNames (familyIn r) ++ placeWords c (familyOf (familyIn r) .set) r)))
+rowWords c n r = with "row " n ++ (equationWords (familyOf (familyIn r) .equation) ++ (nameAt familyNames (familyIn r) ++ placeWords c (familyOf (familyIn r) .set) r))
 
 unfoldable pub sumsWords : RowFigures → List ℕ
 sumsWords f = bytes ": its positive terms come to " ++ (amountWords (f .above) ++ (bytes ", its negative terms to " ++ amountWords (f .below)))

@@ -30,7 +30,7 @@ fn say_column(line: &mut [u8; ROOM], at: usize, c: Counts, column: usize, p: Pla
     let set = column_set(table);
     let numbered = say_with(line, at, b"column ", column as u64);
     let parted = say(line, numbered, b", ");
-    let named = say_name(line, parted, b"cap/build/retire/gen/reserve/trans/unmet/surplus/spinshort/firmshort/charge/level", table);
+    let named = say_name(line, parted, b"cap/build/retire/gen/reserve/trans/unmet/surplus/spinshort/firmshort/charge/level/built/total", table);
     say_place(line, named, c, set, p)
 }
 

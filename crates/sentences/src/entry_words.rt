@@ -32,7 +32,7 @@ fn say_entry(line: &mut [u8; ROOM], at: usize, c: Counts, entry: usize, p: Place
     let set = table_set(table);
     let numbered = say_with(line, at, b"entry ", entry as u64);
     let listed = say(line, numbered, b" of DATA, ");
-    let named = say_name(line, listed, b"R/V/Dur/minimum-load day/zone/fuel/kind/VRE/GenCap/year/MaxNewCap/OverLoad/ResOffer/RampDn/RampUp/MinCapFac/CapCredit/HeatRate/E/ResCost/Availability/Profile/Annuity/FixedOM/GenCost/Demand/EE/SRes/PRM/TL/Loss/zone cap/system cap/Tax/MaxFuel/BuildLimit/VOLL/SurplusPenalty/RESVoLL/SRESVoLL/Err/MaxCapital/battery/efficiency/energy capacity", table);
+    let named = say_name(line, listed, b"R/V/Dur/minimum-load day/zone/fuel/kind/VRE/GenCap/year/MaxNewCap/OverLoad/ResOffer/RampDn/RampUp/MinCapFac/CapCredit/HeatRate/E/ResCost/Availability/Profile/Annuity/FixedOM/GenCost/Demand/EE/SRes/PRM/TL/Loss/zone cap/system cap/Tax/MaxFuel/BuildLimit/VOLL/SurplusPenalty/RESVoLL/SRESVoLL/Err/MaxCapital/battery/efficiency/energy capacity/line limit/MW per line/line annuity", table);
     say_place(line, named, c, set, p)
 }
 

@@ -22,7 +22,19 @@ ghost use Rattle.model.specs.Families.{rowBoxes};
 ghost use Rattle.tables.specs.Layout.{Counted};
 ghost use Rattle.writer.specs.Writing.{Started, Said};
 ghost use Rattle.sentences.specs.Asked.{OfRow, OfMultiplier};
-ghost use Rattle.sentences.specs.Sentences.{rowWords, sumsWords, offScaleWords, brokenWords, multiplierWords};
+ghost use Rattle.sentences.specs.Sentences.{equationWords, rowWords, sumsWords, offScaleWords, brokenWords, multiplierWords};
+
+// A family's equation number in the source; a family that has none there is told by its name alone.
+fn say_equation(line: &mut [u8; ROOM], at: usize, equation: u32) -> usize
+    requires { ⌜ Started (now line) at ⌝ }
+    ensures { λ r. ⌜ Said (now (line .entry)) at (equationWords equation) r (now (line .exit)) ⌝ }
+{
+    if equation == 0 {
+        return say(line, at, b", ");
+    }
+    let numbered = say_with(line, at, b", equation (", equation as u64);
+    say(line, numbered, b") ")
+}
 
 // A row's number, equation with its name, and indices.
 fn say_row(line: &mut [u8; ROOM], at: usize, c: Counts, row: usize, p: Place) -> usize
@@ -32,9 +44,8 @@ fn say_row(line: &mut [u8; ROOM], at: usize, c: Counts, row: usize, p: Place) ->
     let family = p.kind;
     let f = family_at(family);
     let numbered = say_with(line, at, b"row ", row as u64);
-    let equation = say_with(line, numbered, b", equation (", f.equation as u64);
-    let closed = say(line, equation, b") ");
-    let named = say_name(line, closed, b"demand balance/transfer limit/spinning reserve/planning reserve/output and reserve/reserve offer/ramp down/ramp up/minimum load/availability/VRE profile/capacity balance/capacity outside its years/build and retirement by kind/new capacity/yearly build/fuel/capital/zone emissions/system emissions/battery level/charge limit/charge rise/charge fall/level limit", family);
+    let equation = say_equation(line, numbered, f.equation);
+    let named = say_name(line, equation, b"demand balance/transfer limit/spinning reserve/planning reserve/output and reserve/reserve offer/ramp down/ramp up/minimum load/availability/VRE profile/capacity balance/capacity outside its years/build and retirement by kind/new capacity/yearly build/fuel/capital/zone emissions/system emissions/battery level/charge limit/charge rise/charge fall/level limit/line balance/new lines/lines both ways", family);
     say_place(line, named, c, f.set, p)
 }
 

@@ -13,7 +13,7 @@ use Rattle.model.specs.Counts.{sets}
 use Rattle.model.specs.Data.{tableBoxes, tableCount}
 use Rattle.model.specs.Columns.{columnSets, columnBoxes, columnKindCount}
 use Rattle.model.specs.Families.{family, families, familyOf, rowBoxes, familyCount}
-use Rattle.tables.specs.Layout.{Counted, Inside, tableSets}
+use Rattle.tables.specs.Layout.{Counted, Inside, PlanEntryAt, tableSets}
 use Rattle.tables.proofs.Laws.{getD-map-in, at-any, box-at}
 
 pub family-box : (c : Counts) {k : ℕ} → k < familyCount → boxOf (rowBoxes c) k ≡ boxOf (sets c) (familyOf k .set)
@@ -47,3 +47,13 @@ year-below {c} n few e h = omega (arith, few-years c (few .someYears) n, ap (λ 
 
 pub year-inside : {c : Counts} {n y i j s : ℕ} → Counted c → Inside c n y i j s → y < c .years
 year-inside {c} {n} few h = omega (arith, few-years c (few .someYears) n, h .year)
+
+-- where a year's entry of the plan can be read, that of an earlier year can
+pub of-earlier-year : {plan columns-at : List ℕ} {c : Counts} {t k v y i j s : ℕ} → v ≤ y → PlanEntryAt plan columns-at c t k y i j s → PlanEntryAt plan columns-at c t k v i j s
+of-earlier-year h m = record {
+  columnsAt = m .columnsAt;
+  counted = m .counted;
+  table = m .table;
+  set = m .set;
+  inside = record { year = omega (arith, h, m .inside .year); «first» = m .inside .first; second = m .inside .second; slice = m .inside .slice };
+}

@@ -4,6 +4,7 @@ use crate::sets::BY_DAY;
 use crate::sets::BY_LINK;
 use crate::sets::BY_LINK_SEASON;
 use crate::sets::BY_LINK_SLICE;
+use crate::sets::BY_PAIR;
 use crate::sets::BY_PLANT;
 use crate::sets::BY_PLANT_SEASON;
 use crate::sets::BY_PLANT_SLICE;
@@ -22,7 +23,7 @@ ghost use mathlib.Core.Path.{_≡_};
 ghost use Prim.Native.Nat.{_+_, _≤_, _<_};
 ghost use lib.ListN.{length, getD};
 ghost use Rattle.sums.specs.Index.{index};
-ghost use Rattle.model.specs.Counts.{[yzs], [yzzs], [yz], [yg], [g], [one], [y], [s], [qd], [gq], [gs], [z], [yzzq], [yzz], [yf]};
+ghost use Rattle.model.specs.Counts.{[yzs], [yzzs], [yz], [yg], [g], [one], [y], [s], [qd], [gq], [gs], [z], [yzzq], [yzz], [yf], [zz]};
 ghost use Rattle.model.specs.Data.{read, most32};
 ghost use Rattle.tables.specs.Layout.{EntryAt, PlanEntryAt, planEntry};
 
@@ -135,6 +136,13 @@ pub fn by_link(data: &[u32], tables_at: &Starts, c: Counts, t: usize, y: usize, 
     entry_in(data, tables_at, c, t, BY_LINK, y, z, w, 0)
 }
 
+pub fn by_pair(data: &[u32], tables_at: &Starts, c: Counts, t: usize, z: usize, w: usize) -> u64
+    requires { ⌜ EntryAt (now «data») (now «tables_at») c t [zz] 0 z w 0 ⌝ }
+    ensures { λ r. ⌜ (r ≡ read (now («data» .entry)) .entry t 0 z w 0) × (r ≤ most32) ⌝ }
+{
+    entry_in(data, tables_at, c, t, BY_PAIR, 0, z, w, 0)
+}
+
 pub fn by_year_fuel(data: &[u32], tables_at: &Starts, c: Counts, t: usize, y: usize, f: usize) -> u64
     requires { ⌜ EntryAt (now «data») (now «tables_at») c t [yf] y 0 f 0 ⌝ }
     ensures { λ r. ⌜ (r ≡ read (now («data» .entry)) .entry t y 0 f 0) × (r ≤ most32) ⌝ }
@@ -172,6 +180,13 @@ pub fn planned_by_link_slice(plan: &[u32], columns_at: &Starts, c: Counts, t: us
     ensures { λ r. ⌜ (r ≡ planEntry c (now (plan .entry)) (index t y z w s)) × (r ≤ most32) ⌝ }
 {
     planned_in(plan, columns_at, c, t, BY_LINK_SLICE, y, z, w, s)
+}
+
+pub fn planned_by_link(plan: &[u32], columns_at: &Starts, c: Counts, t: usize, y: usize, z: usize, w: usize) -> u64
+    requires { ⌜ PlanEntryAt (now plan) (now «columns_at») c t [yzz] y z w 0 ⌝ }
+    ensures { λ r. ⌜ (r ≡ planEntry c (now (plan .entry)) (index t y z w 0)) × (r ≤ most32) ⌝ }
+{
+    planned_in(plan, columns_at, c, t, BY_LINK, y, z, w, 0)
 }
 
 pub fn planned_by_zone_slice(plan: &[u32], columns_at: &Starts, c: Counts, t: usize, y: usize, z: usize, s: usize) -> u64

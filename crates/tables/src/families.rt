@@ -24,3 +24,6 @@ pub const CHARGE_LIMIT: usize = 21;
 pub const CHARGE_RISE: usize = 22;
 pub const CHARGE_FALL: usize = 23;
 pub const LEVEL_LIMIT: usize = 24;
+pub const LINE_BALANCE: usize = 25;
+pub const NEW_LINES: usize = 26;
+pub const LINES_BOTH_WAYS: usize = 27;

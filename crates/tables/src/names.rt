@@ -44,6 +44,9 @@ pub const MAX_CAPITAL: usize = 41;
 pub const BATTERY: usize = 42;
 pub const EFFICIENCY: usize = 43;
 pub const ENERGY_CAPACITY: usize = 44;
+pub const LINE_LIMIT: usize = 45;
+pub const MW_PER_LINE: usize = 46;
+pub const LINE_ANNUITY: usize = 47;
 
 pub const CAP: usize = 0;
 pub const BUILD: usize = 1;
@@ -57,3 +60,5 @@ pub const SPINSHORT: usize = 8;
 pub const FIRMSHORT: usize = 9;
 pub const CHARGE: usize = 10;
 pub const LEVEL: usize = 11;
+pub const BUILT_LINES: usize = 12;
+pub const TOTAL_LINES: usize = 13;

@@ -30,8 +30,9 @@ pub const BY_ZONE: usize = 14; // z
 pub const BY_LINK_SEASON: usize = 15; // y, z, z2, q
 pub const BY_LINK: usize = 16; // y, z, z2
 pub const BY_YEAR_FUEL: usize = 17; // y, f
+pub const BY_PAIR: usize = 18; // z, z2
 
-// Equation number, index set and equality of each family, in the order of documents 01 and 02.
+// Equation number (0: the source has none), index set and equality of each family, in the order of documents 01 and 02.
 const FAMILIES: [Family; FAMILY_COUNT] = [
     Family { equation: 14, set: BY_YEAR_ZONE_SLICE, equal: true },
     Family { equation: 15, set: BY_LINK_SLICE, equal: false },
@@ -58,6 +59,9 @@ const FAMILIES: [Family; FAMILY_COUNT] = [
     Family { equation: 47, set: BY_YEAR_PLANT_SLICE, equal: false },
     Family { equation: 48, set: BY_YEAR_PLANT_SLICE, equal: false },
     Family { equation: 46, set: BY_YEAR_PLANT_SLICE, equal: false },
+    Family { equation: 0, set: BY_LINK, equal: true },
+    Family { equation: 0, set: BY_PAIR, equal: false },
+    Family { equation: 0, set: BY_LINK, equal: true },
 ];
 
 pub fn family_at(k: usize) -> Family
@@ -100,6 +104,7 @@ pub fn box_of(c: Counts, set: usize) -> Box
         BY_LINK_SEASON => Box { years: c.years, firsts: c.zones, seconds: c.zones, slices: c.seasons },
         BY_LINK => Box { years: c.years, firsts: c.zones, seconds: c.zones, slices: 1 },
         BY_YEAR_FUEL => Box { years: c.years, firsts: 1, seconds: c.fuels, slices: 1 },
+        BY_PAIR => Box { years: 1, firsts: c.zones, seconds: c.zones, slices: 1 },
         _ => Box { years: 0, firsts: 0, seconds: 0, slices: 0 },
     }
 }

@@ -3,6 +3,7 @@ use crate::sets::BY_DAY;
 use crate::sets::BY_LINK;
 use crate::sets::BY_LINK_SEASON;
 use crate::sets::BY_LINK_SLICE;
+use crate::sets::BY_PAIR;
 use crate::sets::BY_PLANT;
 use crate::sets::BY_PLANT_SEASON;
 use crate::sets::BY_PLANT_SLICE;
@@ -82,6 +83,9 @@ const TABLE_SETS: [usize; TABLE_COUNT] = [
     BY_PLANT, // 42 battery
     BY_PLANT, // 43 efficiency
     BY_PLANT, // 44 energy capacity
+    BY_PAIR, // 45 line limit
+    BY_PAIR, // 46 MW per line
+    BY_PAIR, // 47 line annuity
 ];
 
 // The code of each kind of column's index set, in the order of the plan.
@@ -98,6 +102,8 @@ const COLUMN_SETS: [usize; COLUMN_KIND_COUNT] = [
     BY_YEAR_ZONE, // 9 firmshort
     BY_YEAR_PLANT_SLICE, // 10 charge
     BY_YEAR_PLANT_SLICE, // 11 level
+    BY_LINK, // 12 built
+    BY_LINK, // 13 total
 ];
 
 // The code of the index set of a table of the data.

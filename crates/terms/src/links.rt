@@ -3,9 +3,13 @@ use capped::Sum;
 use model::Counts;
 use tables::entries::by_link;
 use tables::entries::by_link_season;
+use tables::entries::by_pair;
+use tables::entries::planned_by_link;
 use tables::entries::planned_by_link_slice;
 use tables::names::LOSS;
+use tables::names::MW_PER_LINE;
 use tables::names::TL;
+use tables::names::TOTAL_LINES;
 use tables::names::TRANS;
 use tables::starts::Starts;
 ghost use mathlib.Core.Path.{_≡_};
@@ -15,8 +19,8 @@ ghost use lib.Dec.{eqb};
 ghost use Rattle.capped.specs.Cap.{cap};
 ghost use Rattle.sums.specs.Sum.{sum, on};
 ghost use Rattle.model.specs.Counts.{slicesOf};
-ghost use Rattle.model.specs.Data.{read, tl, loss};
-ghost use Rattle.model.specs.Columns.{trans};
+ghost use Rattle.model.specs.Data.{read, tl, loss, mwPerLine};
+ghost use Rattle.model.specs.Columns.{trans, totalLines};
 ghost use Rattle.tables.specs.Layout.{Counted, TablesAt, ColumnsAt, planEntry};
 ghost use Rattle.terms.specs.Links.{link};
 
@@ -67,6 +71,20 @@ fn flow_between(plan: &[u32], columns_at: &Starts, c: Counts, inward: bool, y: u
         return planned_by_link_slice(plan, columns_at, c, TRANS, y, u, z, s);
     }
     planned_by_link_slice(plan, columns_at, c, TRANS, y, z, u, s)
+}
+
+// 1000·Σ MW per line[u,z]·total[u,z] over the other zones u: what the lines built into zone z may carry.
+pub fn lines_into(data: &[u32], plan: &[u32], tables_at: &Starts, columns_at: &Starts, c: Counts, y: usize, z: usize) -> Sum
+    requires { ⌜ TablesAt (now «data») (now «tables_at») c × (ColumnsAt (now plan) (now «columns_at») c × ((y < c .years) × (z < c .zones))) ⌝ }
+    ensures { λ r. ⌜ r ≡ cap (sum (c .zones) (λ u. on (not (eqb u z)) (1000 * mwPerLine (read (now («data» .entry))) u z * planEntry c (now (plan .entry)) (totalLines y u z)))) ⌝ }
+{
+    let mut total = capped::zero();
+    for u in 0..c.zones {
+        let power = by_pair(data, tables_at, c, MW_PER_LINE, u, z);
+        let lines = planned_by_link(plan, columns_at, c, TOTAL_LINES, y, u, z);
+        total = capped::add_product_if(u != z, total, 1000 * power, lines);
+    }
+    total
 }
 
 // Σ TL[u,z] over the other zones u, in season q.

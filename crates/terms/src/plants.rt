@@ -1,4 +1,4 @@
-// Sums over plants, years and slices of a season.
+// Sums over plants and over the slices of a season.
 use capped::Sum;
 use model::Counts;
 use parts::slices::both;
@@ -9,7 +9,6 @@ use tables::entries::by_year;
 use tables::entries::by_year_plant;
 use tables::entries::planned_by_year_plant;
 use tables::names::ANNUITY;
-use tables::names::BUILD;
 use tables::names::CAP;
 use tables::names::CAP_CREDIT;
 use tables::names::DURATION;
@@ -27,8 +26,8 @@ ghost use Rattle.capped.specs.Cap.{cap};
 ghost use Rattle.sums.specs.Sum.{sum, on};
 ghost use Rattle.model.specs.Counts.{slicesOf, seasonLength};
 ghost use Rattle.model.specs.Data.{read, zone, capCredit, duration, rate, weight, annuity, candidate, isVre};
-ghost use Rattle.model.specs.Columns.{cap as capColumn, build};
-ghost use Rattle.tables.specs.Layout.{Counted, TablesAt, ColumnsAt, planEntry};
+ghost use Rattle.model.specs.Columns.{cap as capColumn};
+ghost use Rattle.tables.specs.Layout.{TablesAt, ColumnsAt, planEntry};
 
 // 1000·Σ of a year's part over the plants of zone z, in slice s.
 pub fn zone_sum(data: &[u32], tables_at: &Starts, c: Counts, part: &[u32], z: u64, s: usize) -> Sum
@@ -74,18 +73,6 @@ pub fn credit_sum(data: &[u32], plan: &[u32], tables_at: &Starts, columns_at: &S
             credit,
             planned_by_year_plant(plan, columns_at, c, CAP, y, g),
         );
-    }
-    total
-}
-
-// Σ build over the years.
-pub fn build_sum(plan: &[u32], columns_at: &Starts, c: Counts, g: usize) -> Sum
-    requires { ⌜ Counted c × (ColumnsAt (now plan) (now «columns_at») c × (g < c .plants)) ⌝ }
-    ensures { λ r. ⌜ r ≡ cap (sum (c .years) (λ y. 1 * planEntry c (now (plan .entry)) (build y g))) ⌝ }
-{
-    let mut total = capped::zero();
-    for y in 0..c.years {
-        total = capped::add_product(total, 1, planned_by_year_plant(plan, columns_at, c, BUILD, y, g));
     }
     total
 }

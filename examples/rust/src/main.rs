@@ -4,7 +4,7 @@
 use epm::{Certificate, Reason, Refusal};
 
 /// All counts are 1, so each table has one entry.
-const DATA: [u32; 52] = [
+const DATA: [u32; 55] = [
     1, 1, 1, 1, 1, 1, 1, // zones, plants, fuels, seasons, days, hours, years
     1000, 1, 100, 0, // R, V, Dur, minimum-load day
     0, 0, 0, 0, 10, 2, 0, // zone, fuel, kind, VRE, GenCap, year, MaxNewCap
@@ -17,12 +17,13 @@ const DATA: [u32; 52] = [
     0, 0, 0, 0, 0, // zone cap, system cap, Tax, MaxFuel, BuildLimit
     1000, 0, 0, 0, 0, 0, // VOLL, SurplusPenalty, RESVoLL, SRESVoLL, Err, MaxCapital
     0, 0, 0, // battery, efficiency, energy capacity
+    0, 0, 0, // line limit, MW per line, line annuity
 ];
 
 /// Columns: cap, build, retire, gen, reserve, trans, unmet, surplus, spinshort,
-/// firmshort, charge, level.
-const PLAN: [u32; 12] = [10, 0, 0, 8, 0, 0, 0, 0, 0, 0, 0, 0];
-const OVERLOADED: [u32; 12] = [10, 0, 0, 11, 0, 0, 0, 3000, 0, 0, 0, 0];
+/// firmshort, charge, level, built, total.
+const PLAN: [u32; 14] = [10, 0, 0, 8, 0, 0, 0, 0, 0, 0, 0, 0, 0, 0];
+const OVERLOADED: [u32; 14] = [10, 0, 0, 11, 0, 0, 0, 3000, 0, 0, 0, 0, 0, 0];
 
 const COST: u64 = 40_000_000_000;
 
@@ -32,7 +33,7 @@ fn main() -> Result<(), Refusal> {
     assert_eq!(cost, COST);
 
     // Row 0 is the station's balance: 5 money units for a kW through the slice.
-    let mut multipliers = [0; 25];
+    let mut multipliers = [0; 28];
     multipliers[0] = 5_000_000;
     let certificate = epm::certify(&DATA, 1, &PLAN, &multipliers)?;
     let Certificate { cost, gap } = certificate;

@@ -1,6 +1,7 @@
 //! Seeded inputs through both implementations, with counts of what was met.
 
 use crate::calls;
+use epm_reference::cable_count::CableCount;
 use epm_reference::calls::column_loads;
 use epm_reference::generator::anything::{any_contents, any_lists, steep};
 use epm_reference::generator::draft::Case;
@@ -41,8 +42,9 @@ pub struct Agreement {
     /// Certificates whose bound, cost less gap, is above 0.
     pub bounds_above_zero: u64,
     pub by_certify: Met,
-    /// What the inputs of certify had of batteries.
+    /// What the inputs of certify had of batteries, and of lines between zones.
     pub storage: StorageCount,
+    pub cables: CableCount,
     /// First columns off scale that are underpriced as well.
     pub off_scale_and_underpriced: u64,
     pub differences: Vec<String>,
@@ -94,6 +96,7 @@ impl Agreement {
         self.hold(label, "certify", &expected, &answered);
         self.count_certify(case, expected);
         self.storage.count(case, expected);
+        self.cables.count(case, expected);
 
         let mut expected_board = case.board.clone();
         let mut board = case.board.clone();
@@ -145,6 +148,7 @@ impl Agreement {
         missing.extend(self.by_certify.missing(&by_certify()));
         missing.extend(self.by_certify.missing_places(&PLACED));
         missing.extend(self.storage.missing());
+        missing.extend(self.cables.missing());
         missing.extend(absent(&[
             (self.written, "a board written"),
             (self.far_from_zero, "a certificate far from zero"),
@@ -180,9 +184,10 @@ impl fmt::Display for Agreement {
         )?;
         write!(
             f,
-            "{}{}",
+            "{}{}{}",
             self.by_certify.table(&by_certify()),
-            self.storage
+            self.storage,
+            self.cables
         )?;
         writeln!(
             f,

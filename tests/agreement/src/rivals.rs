@@ -3,13 +3,13 @@
 use crate::calls::certify;
 use epm_reference::generator::draft::Case;
 use epm_reference::generator::random::Random;
-use epm_reference::generator::{optimal, shape, solved, sound_case};
+use epm_reference::generator::{linked, optimal, shape, solved, sound_case};
 use epm_reference::rival_count::RivalCount;
 
 const RIVALS_OF_EACH: u64 = 8;
 
-/// Rivals of as many drawn certificates, as many optimal ones, and as many optimal ones
-/// with a battery.
+/// Rivals of as many drawn certificates, as many optimal ones, as many optimal ones with a
+/// battery and as many with lines.
 pub fn measure_rivals(certificates: u64) -> RivalCount {
     let mut random = Random::new(certificates);
     let mut count = RivalCount::default();
@@ -20,6 +20,8 @@ pub fn measure_rivals(certificates: u64) -> RivalCount {
         try_case(&mut random, &best, &mut count);
         let stored = solved::draft(&mut random).case;
         try_case(&mut random, &stored, &mut count);
+        let linked = linked::draft(&mut random).case;
+        try_case(&mut random, &linked, &mut count);
     }
     count
 }

@@ -2,9 +2,10 @@
 
 use epm::raw::{self, epm_certify, epm_check, epm_post, OUT_TOO_SHORT};
 use epm_agreement::{certify, check, measure, measure_rivals, post, Agreement};
-use epm_reference::columns::{Column, ColumnLayout};
+use epm_reference::calls::LARGEST_MULTIPLIER;
+use epm_reference::columns::ColumnLayout;
 use epm_reference::data::DataLayout;
-use epm_reference::generator::draft::{Case, Draft};
+use epm_reference::generator::draft::Case;
 use epm_reference::generator::random::Random;
 use epm_reference::generator::{full_size_case, shape, sound_case, LARGEST_COUNTS};
 use epm_reference::rows::RowLayout;
@@ -71,7 +72,7 @@ fn only_the_first_two_words_of_out_are_written() {
     assert_eq!(status, 0);
     assert_eq!(out, [cost, gap, UNTOUCHED, UNTOUCHED, UNTOUCHED]);
     let last = multipliers.len() - 1;
-    multipliers[last] = -1;
+    multipliers[last] = i64::MIN;
     let status = raw::certify(&case.data, case.scale, &case.plan, &multipliers, &mut out);
     assert_eq!(status, 10);
     assert_eq!(out, [last as u64, 0, UNTOUCHED, UNTOUCHED, UNTOUCHED]);
@@ -185,7 +186,7 @@ fn no_rival_is_below_a_certificate() {
 }
 
 /// The largest shape, more than a million rows: accepted, and with a fault in the
-/// last column that can have one and in the last row.
+/// last column and in the last row.
 #[test]
 fn the_calls_agree_at_full_size() {
     let mut case = full_size_case();
@@ -199,23 +200,17 @@ fn the_calls_agree_at_full_size() {
     none_differ(&agreement);
     assert_eq!((agreement.certified, agreement.posted), (1, 1));
 
-    // The last column that can be underpriced is the last battery's level in the last
-    // year and slice: its price is 0, and the level's row asks 1 of it.
+    // The last column is the total within the last zone, in the last year: its price is 0,
+    // and its row of family 26 asks 1 of it.
     let shape = Shape::new(LARGEST_COUNTS);
     let (rows, columns) = (RowLayout::new(shape), ColumnLayout::new(shape));
-    let draft = Draft::of(case.clone());
-    let battery = (0..shape.plants).rfind(|&g| draft.is_battery(g));
-    let last = [
-        shape.years - 1,
-        battery.expect("a battery"),
-        shape.slices() - 1,
-    ];
+    let last = [shape.years - 1, shape.zones - 1, shape.zones - 1];
     case.multipliers.fill(0);
-    case.multipliers[rows.index(21, &last)] = 1;
+    case.multipliers[rows.index(26, &last)] = 1;
     let answer = certify(&case.data, case.scale, &case.plan, &case.multipliers);
-    let level = columns.index(Column::Level, &last);
-    assert_eq!(answer, Err(Refusal::at(12, level)));
-    *case.multipliers.last_mut().expect("a row") = -1;
+    assert_eq!(answer, Err(Refusal::at(12, columns.count() - 1)));
+    // The last row is of a family of equalities, which take multipliers below 0.
+    *case.multipliers.last_mut().expect("a row") = -LARGEST_MULTIPLIER - 1;
     let answer = certify(&case.data, case.scale, &case.plan, &case.multipliers);
     assert_eq!(answer, Err(Refusal::at(10, rows.count() - 1)));
 }

@@ -13,9 +13,9 @@ use crate::sums::{SignedSum, LIMIT};
 /// N is 1..1000.
 pub const LARGEST_SCALE: u32 = 1000;
 
-/// Multipliers are −2^40..2^40 in the families of equalities, 1, 12 and 21, and
-/// 0..2^40 elsewhere. The range goes by family: rows of 21 that read 0 ≥ 0 take both
-/// signs too (docs/DECISIONS.md, "Multipliers and gap").
+/// Multipliers are −2^40..2^40 in the families of equalities, 1, 12, 21, 26 and 28, and
+/// 0..2^40 elsewhere. The range goes by family: rows of 21 and 28 that read 0 ≥ 0 take
+/// both signs too (docs/DECISIONS.md, "Multipliers and gap").
 pub const LARGEST_MULTIPLIER: i64 = 1 << 40;
 
 /// Tests data, scale and plan; answers the cost.

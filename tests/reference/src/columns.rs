@@ -19,6 +19,9 @@ pub enum Column {
     // Request (i).
     Charge,
     Level,
+    // Request (ii).
+    Built,
+    Total,
 }
 
 pub struct ColumnEntry {
@@ -32,15 +35,16 @@ const YGS: &[Axis] = &[Axis::Year, Axis::Plant, Axis::Slice];
 const YZZS: &[Axis] = &[Axis::Year, Axis::Zone, Axis::OtherZone, Axis::Slice];
 const YZS: &[Axis] = &[Axis::Year, Axis::Zone, Axis::Slice];
 const YZ: &[Axis] = &[Axis::Year, Axis::Zone];
+const YZZ: &[Axis] = &[Axis::Year, Axis::Zone, Axis::OtherZone];
 
 const fn entry(column: Column, name: &'static str, axes: &'static [Axis]) -> ColumnEntry {
     ColumnEntry { column, name, axes }
 }
 
-pub const COLUMN_TABLES: usize = 12;
+pub const COLUMN_TABLES: usize = 14;
 
 /// Unmet, surplus, spinshort and firmshort are in Nths of a kW, level in Nths of
-/// a kWh, the others in Nths of a MW.
+/// a kWh, built and total in Nths of a line, the others in Nths of a MW.
 pub const COLUMNS: [ColumnEntry; COLUMN_TABLES] = [
     entry(Column::Cap, "cap", YG),
     entry(Column::Build, "build", YG),
@@ -54,6 +58,8 @@ pub const COLUMNS: [ColumnEntry; COLUMN_TABLES] = [
     entry(Column::FirmShort, "firmshort", YZ),
     entry(Column::Charge, "charge", YGS),
     entry(Column::Level, "level", YGS),
+    entry(Column::Built, "built", YZZ),
+    entry(Column::Total, "total", YZZ),
 ];
 
 /// Where each table of the plan starts.

@@ -2,6 +2,7 @@
 //! first broken row and as the first multiplier out of range, every table of columns
 //! as the first underpriced, every range of the data.
 
+use crate::cable_count::CableCount;
 use crate::calls::{certify, check, post};
 use crate::generator::draft::Case;
 use crate::generator::frames;
@@ -30,6 +31,7 @@ pub struct Coverage {
     /// Each refusal that an input met in some call, once for each input.
     pub met: Met,
     pub storage: StorageCount,
+    pub cables: CableCount,
 }
 
 /// Runs the inputs of seeds 0..inputs through all calls and, where they are
@@ -73,6 +75,7 @@ impl Coverage {
             self.bounds_above_zero += 1;
         }
         self.storage.count(case, certified);
+        self.cables.count(case, certified);
         let mut counted = vec![];
         for refusal in refusals {
             if !counted.contains(&refusal.number) {
@@ -98,6 +101,7 @@ impl Coverage {
         let placed = [ENTRY, BROKEN, MULTIPLIER, UNDERPRICED];
         missing.extend(self.met.missing_places(&placed));
         missing.extend(self.storage.missing());
+        missing.extend(self.cables.missing());
         missing.extend(absent(&[
             (self.accepted, "accepted"),
             (self.bounds_above_zero, "bound above 0"),
@@ -122,7 +126,7 @@ impl fmt::Display for Coverage {
         writeln!(f, "inputs {}, texts {}", self.inputs, self.texts)?;
         writeln!(f, "accepted by all calls {}", self.accepted)?;
         writeln!(f, "certificates above 0 {}", self.bounds_above_zero)?;
-        write!(f, "{}", self.storage)?;
+        write!(f, "{}{}", self.storage, self.cables)?;
         write!(f, "refusals met:\n{}", self.met.table(&refusals()))
     }
 }

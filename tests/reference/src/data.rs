@@ -2,7 +2,7 @@
 //! and the tests of refusals 1, 2, 3 and 16.
 
 use crate::refusal::{Refusal, DATA_LENGTH, ENTRY, SHAPE, STORAGE};
-use crate::shape::{Axis, Shape, COUNTS};
+use crate::shape::{is_within_zone, Axis, Shape, COUNTS};
 
 /// The tables in the order of the data list. Requests append at the end.
 #[derive(Clone, Copy, Debug, PartialEq, Eq)]
@@ -53,6 +53,10 @@ pub enum Table {
     Battery,
     Efficiency,
     EnergyCapacity,
+    // Request (ii).
+    LineLimit,
+    LineMw,
+    LineAnnuity,
 }
 
 /// The range of a table's entries. The last four depend on the plant's kind or
@@ -71,7 +75,7 @@ pub enum Range {
     ZeroForExisting,
     /// Existing: retirement 2..Y+1; candidate: commission 1..Y.
     YearByKind,
-    /// TL: 0 where z = z2.
+    /// TL and the tables of lines: 0 where z = z2.
     ZeroWithinZone,
 }
 
@@ -95,6 +99,7 @@ const Z: &[Axis] = &[Axis::Zone];
 const YZZQ: &[Axis] = &[Axis::Year, Axis::Zone, Axis::OtherZone, Axis::Season];
 const YZZ: &[Axis] = &[Axis::Year, Axis::Zone, Axis::OtherZone];
 const YF: &[Axis] = &[Axis::Year, Axis::Fuel];
+const ZZ: &[Axis] = &[Axis::Zone, Axis::OtherZone];
 const SINGLE: &[Axis] = &[];
 
 const THOUSANDTHS: Range = Range::Within(0, 1000);
@@ -114,7 +119,7 @@ const fn entry(
     }
 }
 
-pub const TABLE_COUNT: usize = 45;
+pub const TABLE_COUNT: usize = 48;
 
 /// The data list after its seven counts.
 pub const TABLES: [TableEntry; TABLE_COUNT] = [
@@ -163,6 +168,14 @@ pub const TABLES: [TableEntry; TABLE_COUNT] = [
     entry(Table::Battery, "battery", G, FLAG),
     entry(Table::Efficiency, "efficiency", G, THOUSANDTHS),
     entry(Table::EnergyCapacity, "energy capacity", G, Range::Any),
+    entry(Table::LineLimit, "line limit", ZZ, Range::ZeroWithinZone),
+    entry(Table::LineMw, "MW per line", ZZ, Range::ZeroWithinZone),
+    entry(
+        Table::LineAnnuity,
+        "line annuity",
+        ZZ,
+        Range::ZeroWithinZone,
+    ),
 ];
 
 /// Where each table starts in the data list.
@@ -263,7 +276,7 @@ impl<'a> Data<'a> {
             for place in 0..self.shape.size(entry.axes) {
                 let indices = self.shape.indices(entry.axes, place);
                 let index = self.layout.index(entry.table, &indices);
-                let (least, most) = self.limits(entry.range, &indices);
+                let (least, most) = self.limits(entry, &indices);
                 if self.list[index] < least || self.list[index] > most {
                     return Err(Refusal::at(ENTRY, index));
                 }
@@ -283,10 +296,10 @@ impl<'a> Data<'a> {
 
     /// The least and the most that an entry may be. The kind table lies before the
     /// tables whose ranges depend on it, so it has been tested when they are.
-    pub fn limits(&self, range: Range, indices: &[usize]) -> (u32, u32) {
+    pub fn limits(&self, entry: &TableEntry, indices: &[usize]) -> (u32, u32) {
         let years = self.shape.years as u32;
         let zero_if = |zero: bool| if zero { (0, 0) } else { (0, u32::MAX) };
-        match range {
+        match entry.range {
             Range::Any => (0, u32::MAX),
             Range::Within(least, most) => (least, most),
             Range::BelowZones => (0, self.shape.zones as u32 - 1),
@@ -295,7 +308,7 @@ impl<'a> Data<'a> {
             Range::ZeroForExisting => zero_if(!self.is_candidate(indices[0])),
             Range::YearByKind if self.is_candidate(indices[0]) => (1, years),
             Range::YearByKind => (2, years + 1),
-            Range::ZeroWithinZone => zero_if(indices[1] == indices[2]),
+            Range::ZeroWithinZone => zero_if(is_within_zone(entry.axes, indices)),
         }
     }
 

@@ -11,7 +11,7 @@ use crate::refusal::{
     Refusal, BROKEN, COLUMN_OFF_SCALE, COST_OFF_SCALE, DATA_LENGTH, ENTRY, FRAME, GAP_OFF_SCALE,
     MULTIPLIER, MULTIPLIER_COUNT, PLAN_LENGTH, ROW_OFF_SCALE, SCALE, SHAPE, STORAGE, UNDERPRICED,
 };
-use crate::rows::FAMILIES;
+use crate::rows::{Family, FAMILIES, NO_NUMBER};
 use crate::shape::{Axis, Shape, COUNTS};
 use crate::sums::{SignedSum, LIMIT};
 
@@ -122,15 +122,20 @@ fn model(read: &Input) -> Model<'_> {
     Model::read(&read.data).expect("data that passed")
 }
 
-/// A row's number, equation with its name, and indices.
+/// A row's number, equation and name, and indices.
 fn row_words(model: &Model, number: usize) -> String {
     let (family, indices) = model.rows.locate(number).expect("a row number");
     let family = &FAMILIES[family - 1];
     let place = place_words(&model.data.shape, family.axes, &indices);
-    format!(
-        "row {number}, equation ({}) {}{place}",
-        family.equation, family.name
-    )
+    format!("row {number}, {}{place}", family_words(family))
+}
+
+/// A family by its equation and name; by its name alone where it has no number.
+fn family_words(family: &Family) -> String {
+    match family.equation {
+        NO_NUMBER => family.name.to_string(),
+        equation => format!("equation ({equation}) {}", family.name),
+    }
 }
 
 /// A row and what its terms come to by sign.
@@ -224,7 +229,7 @@ fn entry_out_of_range(read: &Input, index: usize) -> String {
     let (table, indices) = data.locate(index).expect("an entry past the counts");
     let entry = &TABLES[table as usize];
     let place = place_words(&data.shape, entry.axes, &indices);
-    let (least, most) = data.limits(entry.range, &indices);
+    let (least, most) = data.limits(entry, &indices);
     let range = range(read.data[index], least, most);
     format!("entry {index} of DATA, {}{place}{range}", entry.name)
 }

@@ -11,8 +11,10 @@
 //! `calls`, `program` and `rival`; `explain` says an answer in words. The inputs for
 //! the tests come from `generator`; `optimum` works out the least cost of small ones,
 //! `coverage` counts which answers the inputs reach, `storage_count` what they have of
-//! batteries, `rival_count` the rivals that certificates are held to.
+//! batteries and `cable_count` of lines between zones, `rival_count` the rivals that
+//! certificates are held to.
 
+pub mod cable_count;
 pub mod calls;
 pub mod columns;
 pub mod coverage;

@@ -6,7 +6,7 @@ use crate::data::{read_shape, DataLayout, Range, TABLES};
 use crate::refusal::{
     Refusal, BROKEN, COLUMN_OFF_SCALE, ENTRY, MULTIPLIER, ROW_OFF_SCALE, UNDERPRICED, WORDS,
 };
-use crate::rows::{RowLayout, FAMILIES, FAMILY_COUNT};
+use crate::rows::{RowLayout, FAMILIES, FAMILY_COUNT, NO_NUMBER};
 use std::collections::BTreeMap;
 use std::fmt::Write;
 
@@ -29,9 +29,11 @@ fn names(number: u32) -> Vec<String> {
             .filter(|entry| entry.range != Range::Any)
             .map(|entry| entry.name.to_string())
             .collect(),
-        ROW_OFF_SCALE => (17..=19).map(family_name).collect(),
+        ROW_OFF_SCALE => [2, 3, 17, 18, 19].map(family_name).into(),
         BROKEN | MULTIPLIER => (1..=FAMILY_COUNT).map(family_name).collect(),
-        COLUMN_OFF_SCALE => [Column::Cap, Column::Gen].map(table_name).into(),
+        COLUMN_OFF_SCALE => [Column::Cap, Column::Gen, Column::Total]
+            .map(table_name)
+            .into(),
         UNDERPRICED => COLUMNS
             .iter()
             .map(|entry| table_name(entry.column))
@@ -41,7 +43,11 @@ fn names(number: u32) -> Vec<String> {
 }
 
 fn family_name(family: usize) -> String {
-    format!("family {family} ({})", FAMILIES[family - 1].equation)
+    let entry = &FAMILIES[family - 1];
+    match entry.equation {
+        NO_NUMBER => format!("family {family} {}", entry.name),
+        equation => format!("family {family} ({equation})"),
+    }
 }
 
 fn table_name(column: Column) -> String {

@@ -81,6 +81,9 @@ impl<'a> Model<'a> {
             23 => self.charge_rise(&mut row, i[0], i[1], i[2]),
             24 => self.charge_fall(&mut row, i[0], i[1], i[2]),
             25 => self.level_limit(&mut row, i[0], i[1], i[2]),
+            26 => self.line_balance(&mut row, i[0], i[1], i[2]),
+            27 => self.new_lines(&mut row, i[0], i[1]),
+            28 => self.lines_both_ways(&mut row, i[0], i[1], i[2]),
             _ => panic!("no family {family}"),
         }
         Row {
@@ -110,16 +113,17 @@ impl<'a> Model<'a> {
         row.constant = -data.at(Table::Demand, &[y, z, s]) * data.at(Table::Ee, &[y, z]);
     }
 
-    /// 2 (15): trans ≤ TL, for z = z2 too, since the family has no condition
-    /// (docs/DECISIONS.md, "Rows": "Family 2 where z = z2").
+    /// 2 (15): trans ≤ TL + MW per line·total, each from z to z2, for z = z2 too, since
+    /// the family has no condition (docs/DECISIONS.md, "Rows": "Family 2 where z = z2").
     fn transfer_limit(&self, row: &mut RowBuilder, y: usize, z: usize, z2: usize, s: usize) {
         let q = self.data.shape.season_of(s);
         row.add(-1, Column::Trans, &[y, z, z2, s]);
+        row.add(self.line_mw(z, z2), Column::Total, &[y, z, z2]);
         row.constant = self.data.at(Table::Tl, &[y, z, z2, q]);
     }
 
-    /// 3 (19): 1000·Σ reserve in z + spinshort + 1000·Σ (TL[z2,z] − trans[z2,z])
-    /// ≥ 1000·SRes + Err·Σ gen of VRE in z.
+    /// 3 (19): 1000·Σ reserve in z + spinshort + 1000·Σ (TL[z2,z]
+    /// + MW per line[z2,z]·total[z2,z] − trans[z2,z]) ≥ 1000·SRes + Err·Σ gen of VRE in z.
     fn spinning_reserve(&self, row: &mut RowBuilder, y: usize, z: usize, s: usize) {
         let data = &self.data;
         let q = data.shape.season_of(s);
@@ -132,6 +136,7 @@ impl<'a> Model<'a> {
         }
         for z2 in data.zones_beside(z) {
             row.add(-1000, Column::Trans, &[y, z2, z, s]);
+            row.add(1000 * self.line_mw(z2, z), Column::Total, &[y, z2, z]);
             links_in += data.at(Table::Tl, &[y, z2, z, q]);
         }
         row.add(1, Column::SpinShort, &[y, z, s]);
@@ -139,7 +144,7 @@ impl<'a> Model<'a> {
     }
 
     /// 4 (21): Σ CapCredit·cap in z + firmshort + 1000·Σ TL[z2,z] over z2 and all
-    /// seasons ≥ (1000 + PRM)·peak.
+    /// seasons ≥ (1000 + PRM)·peak. Lines that are built do not count.
     fn planning_reserve(&self, row: &mut RowBuilder, y: usize, z: usize) {
         let data = &self.data;
         let mut links_in = 0;
@@ -314,7 +319,7 @@ impl<'a> Model<'a> {
         row.constant = 1000 * data.at(Table::MaxFuel, &[y, f]);
     }
 
-    /// 18 (64): Σ R·V·Annuity·cap of candidates ≤ 10⁹·MaxCapital.
+    /// 18 (64): Σ R·V·Annuity·cap of candidates ≤ 10⁹·MaxCapital. Lines do not count.
     fn capital(&self, row: &mut RowBuilder) {
         let data = &self.data;
         for y in 0..data.shape.years {
@@ -392,6 +397,36 @@ impl<'a> Model<'a> {
         if self.data.is_battery(g) {
             row.constant = self.data.at(Table::EnergyCapacity, &[g]);
         }
+    }
+
+    /// 26: total = earlier total (0 in the first year) + built, for z = z2 too, since the
+    /// family has no condition.
+    fn line_balance(&self, row: &mut RowBuilder, y: usize, z: usize, z2: usize) {
+        row.add(1, Column::Total, &[y, z, z2]);
+        if y > 0 {
+            row.add(-1, Column::Total, &[y - 1, z, z2]);
+        }
+        row.add(-1, Column::Built, &[y, z, z2]);
+    }
+
+    /// 27: Σ built over the years ≤ line limit, for z = z2 too, where the limit is 0.
+    fn new_lines(&self, row: &mut RowBuilder, z: usize, z2: usize) {
+        for y in 0..self.data.shape.years {
+            row.add(-1, Column::Built, &[y, z, z2]);
+        }
+        row.constant = self.data.at(Table::LineLimit, &[z, z2]);
+    }
+
+    /// 28, z below z2: total[z,z2] = total[z2,z].
+    fn lines_both_ways(&self, row: &mut RowBuilder, y: usize, z: usize, z2: usize) {
+        if z < z2 {
+            row.add(1, Column::Total, &[y, z, z2]);
+            row.add(-1, Column::Total, &[y, z2, z]);
+        }
+    }
+
+    fn line_mw(&self, z: usize, z2: usize) -> i128 {
+        self.data.at(Table::LineMw, &[z, z2])
     }
 
     fn emissions_of(&self, row: &mut RowBuilder, y: usize, g: usize) {

@@ -19,13 +19,14 @@ impl Model<'_> {
         match column {
             Column::Cap => weight * self.capacity_price(i[0], i[1]),
             Column::Build | Column::Retire | Column::Trans => 0,
-            Column::Charge | Column::Level => 0,
+            Column::Charge | Column::Level | Column::Built => 0,
             Column::Gen => weighted_hours(i[2]) * self.generation_price(i[0], i[1]),
             Column::Reserve => weighted_hours(i[2]) * data.at(Table::ResCost, &[i[1]]),
             Column::Unmet => weighted_hours(i[2]) * data.single(Table::Voll),
             Column::Surplus => weighted_hours(i[2]) * data.single(Table::SurplusPenalty),
             Column::SpinShort => weighted_hours(i[2]) * data.single(Table::SresVoll),
             Column::FirmShort => weight * data.single(Table::ResVoll),
+            Column::Total => weight * self.line_price(i[1], i[2]),
         }
     }
 
@@ -43,6 +44,16 @@ impl Model<'_> {
     fn generation_price(&self, y: usize, g: usize) -> i128 {
         let tax = self.data.at(Table::Tax, &[y]) * self.data.at(Table::Emission, &[g]);
         self.data.at(Table::GenCost, &[y, g]) + tax
+    }
+
+    /// The annuity of the pair with the lower zone first. The total of the other
+    /// direction is the same by family 28 and pays nothing, so that a line pays once.
+    fn line_price(&self, z: usize, z2: usize) -> i128 {
+        if z < z2 {
+            self.data.at(Table::LineAnnuity, &[z, z2])
+        } else {
+            0
+        }
     }
 
     /// Σ c·entry, exact. The plan has as many entries as there are columns.

@@ -26,6 +26,10 @@ pub struct RivalCount {
     pub labels: BTreeMap<&'static str, u64>,
     /// Feasible rivals with a battery that charges otherwise than in the plan.
     pub charging_otherwise: u64,
+    /// Feasible rivals with lines that are built otherwise than in the plan.
+    pub building_lines_otherwise: u64,
+    /// Feasible rivals with a total that is no whole number of the plan's Nths of a line.
+    pub finer_lines: u64,
     /// Feasible rivals with an entry of more than 32 bits.
     pub wide_entries: u64,
     pub cheaper_than_the_plan: u64,
@@ -44,14 +48,22 @@ fn compare(rival: Wide, rival_scale: u64, amount: u64, scale: u32) -> Ordering {
     left.cmp(&Wide::product(u128::from(amount), u128::from(rival_scale)))
 }
 
-/// Whether a charge of the rival in Mths differs from the plan's in Nths.
-fn charges_otherwise(rival: &Rival, case: &Case) -> bool {
+/// Whether an entry of this table, in Mths, differs from the plan's in Nths.
+fn differs_in(table: Column, rival: &Rival, case: &Case) -> bool {
     let columns = ColumnLayout::new(read_shape(&case.data).expect("sound data"));
     let differs = |column: usize| {
         let planned = u128::from(case.plan[column]) * u128::from(rival.scale);
         rival.entries[column] * u128::from(case.scale) != planned
     };
-    columns.of_table(Column::Charge).any(differs)
+    columns.of_table(table).any(differs)
+}
+
+/// Whether a total of the rival, in Mths of a line, cannot be said in Nths.
+fn has_finer_lines(rival: &Rival, case: &Case) -> bool {
+    let columns = ColumnLayout::new(read_shape(&case.data).expect("sound data"));
+    let nths = |column: usize| rival.entries[column] * u128::from(case.scale);
+    let mut totals = columns.of_table(Column::Total);
+    totals.any(|column| !nths(column).is_multiple_of(u128::from(rival.scale)))
 }
 
 impl RivalCount {
@@ -97,7 +109,9 @@ impl RivalCount {
         let multiple = rival.scale.is_multiple_of(u64::from(case.scale));
         *self.labels.entry(rival.label).or_default() += 1;
         self.other_scale += u64::from(!multiple);
-        self.charging_otherwise += u64::from(charges_otherwise(&rival, case));
+        self.charging_otherwise += u64::from(differs_in(Column::Charge, &rival, case));
+        self.building_lines_otherwise += u64::from(differs_in(Column::Built, &rival, case));
+        self.finer_lines += u64::from(has_finer_lines(&rival, case));
         self.wide_entries += u64::from(wide);
         self.cheaper_than_the_plan += u64::from(against(cost).is_lt());
         if cost > gap {
@@ -112,6 +126,8 @@ impl RivalCount {
             (self.feasible, "feasible"),
             (self.other_scale, "at a scale that is no multiple"),
             (self.charging_otherwise, "charging otherwise"),
+            (self.building_lines_otherwise, "building lines otherwise"),
+            (self.finer_lines, "building finer fractions of a line"),
             (self.wide_entries, "of more than 32 bits"),
             (self.cheaper_than_the_plan, "cheaper than the plan"),
             (self.bounded_above_zero, "bounded above 0"),
@@ -138,6 +154,8 @@ impl fmt::Display for RivalCount {
             ("not feasible, left out", self.infeasible),
             ("at a scale that is no multiple", self.other_scale),
             ("charging otherwise than the plan", self.charging_otherwise),
+            ("building lines otherwise", self.building_lines_otherwise),
+            ("with finer fractions of a line", self.finer_lines),
             ("with entries of more than 32 bits", self.wide_entries),
             ("cheaper than the plan", self.cheaper_than_the_plan),
             ("bounded above 0", self.bounded_above_zero),

@@ -2,7 +2,7 @@
 //! plan in whole Nths and to whole multipliers, in its order and with its
 //! numbers. The worked example (`tests/rounding.rs`) says what each step gains.
 
-use crate::calls::{column_loads, row_value};
+use crate::calls::{column_loads, row_value, LARGEST_MULTIPLIER};
 use crate::columns::Column;
 use crate::data::Table;
 use crate::model::{Model, Row};
@@ -75,6 +75,7 @@ pub fn plan(model: &Model, scale: u32, entries: &[f64], raising: bool) -> Vec<u3
         plan,
     };
     rounding.capacity(entries);
+    rounding.lines(entries);
     rounding.store(entries);
     rounding.dispatch(entries);
     rounding.balance(entries, raising);
@@ -153,6 +154,40 @@ impl Rounding<'_> {
                 self.round(entries, Column::Build, i, false);
                 self.stock();
             }
+        }
+    }
+
+    /// Step 1 for lines: built upward, alike in both directions, downward where a limit of
+    /// family 27 would be passed; total by family 26.
+    fn lines(&mut self, entries: &[f64]) {
+        let zones = self.model.data.shape.zones;
+        let years = 0..self.model.data.shape.years;
+        for (z, z2) in (0..zones).flat_map(|z2| (0..z2).map(move |z| (z, z2))) {
+            for y in years.clone() {
+                self.build_lines(entries, [y, z, z2], true);
+            }
+            for y in years.clone() {
+                if self.value(27, &[z, z2]) < 0 || self.value(27, &[z2, z]) < 0 {
+                    self.build_lines(entries, [y, z, z2], false);
+                }
+            }
+            self.add_up_lines([z, z2]);
+        }
+    }
+
+    /// The lines that a pair builds in a year, in both directions those of the lower zone.
+    fn build_lines(&mut self, entries: &[f64], [y, z, z2]: [usize; 3], upward: bool) {
+        self.round(entries, Column::Built, &[y, z, z2], upward);
+        let built = self.at(Column::Built, &[y, z, z2]);
+        self.set(Column::Built, &[y, z2, z], built);
+    }
+
+    fn add_up_lines(&mut self, [z, z2]: [usize; 2]) {
+        let mut total = 0;
+        for y in 0..self.model.data.shape.years {
+            total += self.at(Column::Built, &[y, z, z2]);
+            self.set(Column::Total, &[y, z, z2], total);
+            self.set(Column::Total, &[y, z2, z], total);
         }
     }
 
@@ -391,6 +426,16 @@ impl Mending<'_> {
                 self.price_build(y, g);
             }
         }
+        for z in 0..shape.zones {
+            for z2 in 0..shape.zones {
+                for y in (0..shape.years).rev() {
+                    self.price_total(y, z, z2);
+                }
+                for y in 0..shape.years {
+                    self.price_built(y, z, z2);
+                }
+            }
+        }
     }
 
     fn row(&mut self, family: usize, indices: &[usize]) -> &mut i64 {
@@ -453,6 +498,21 @@ impl Mending<'_> {
         let least = if candidate { -*self.row(15, &[g]) } else { 0 };
         *self.row(12, &[y, g]) = least;
         self.raise(13, 1, Column::Cap, &[y, g]);
+    }
+
+    /// Step 3 for lines: family 26 so that the column total is priced exactly, as family 2 has
+    /// left it, or the largest multiplier where that is less: a line that earns little and costs
+    /// much is priced well by it too. Family 28 stays: what one direction pays for the other.
+    fn price_total(&mut self, y: usize, z: usize, z2: usize) {
+        let excess = self.excess(Column::Total, &[y, z, z2]);
+        let m = self.row(26, &[y, z, z2]);
+        *m = (*m - excess).min(LARGEST_MULTIPLIER);
+    }
+
+    /// Step 4 for lines: built by family 27.
+    fn price_built(&mut self, y: usize, z: usize, z2: usize) {
+        let excess = self.excess(Column::Built, &[y, z, z2]).max(0);
+        *self.row(27, &[z, z2]) += excess;
     }
 
     /// Step 4: build of a candidate, by family 15 or 16, the one with the smaller constant.

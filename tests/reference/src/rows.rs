@@ -4,9 +4,12 @@
 
 use crate::shape::{describe, Axis, Shape};
 
+/// The equation of a family that document 000 prints without a number.
+pub const NO_NUMBER: u32 = 0;
+
 /// One line of the fixed table of families. `number` is the place in the list,
-/// `equation` the number in source document 000; family 21 is (42) in a day's first
-/// hour and (43) in the others, and has the second.
+/// `equation` the number in source document 000, or `NO_NUMBER`; family 21 is (42) in a
+/// day's first hour and (43) in the others, and has the second.
 pub struct Family {
     pub number: usize,
     pub equation: u32,
@@ -26,6 +29,19 @@ const G: &[Axis] = &[Axis::Plant];
 const YZF: &[Axis] = &[Axis::Year, Axis::Zone, Axis::Fuel];
 const ONE: &[Axis] = &[];
 const Y: &[Axis] = &[Axis::Year];
+const YZZ: &[Axis] = &[Axis::Year, Axis::Zone, Axis::OtherZone];
+const ZZ: &[Axis] = &[Axis::Zone, Axis::OtherZone];
+
+impl Family {
+    /// The family in words, such as `7 ramp down (24)`.
+    pub fn title(&self) -> String {
+        let name = format!("{} {}", self.number, self.name);
+        match self.equation {
+            NO_NUMBER => name,
+            equation => format!("{name} ({equation})"),
+        }
+    }
+}
 
 const fn family(
     number: usize,
@@ -43,7 +59,7 @@ const fn family(
     }
 }
 
-pub const FAMILY_COUNT: usize = 25;
+pub const FAMILY_COUNT: usize = 28;
 
 /// Requests append families at the end.
 pub const FAMILIES: [Family; FAMILY_COUNT] = [
@@ -72,6 +88,9 @@ pub const FAMILIES: [Family; FAMILY_COUNT] = [
     family(23, 47, "charge rise", YGS, false),
     family(24, 48, "charge fall", YGS, false),
     family(25, 46, "level limit", YGS, false),
+    family(26, NO_NUMBER, "line balance", YZZ, true),
+    family(27, NO_NUMBER, "new lines", ZZ, false),
+    family(28, NO_NUMBER, "lines both ways", YZZ, true),
 ];
 
 /// Where each family's rows start.
@@ -136,8 +155,7 @@ impl RowLayout {
         match self.locate(number) {
             Some((family, indices)) => {
                 let entry = &FAMILIES[family - 1];
-                let name = format!("{} {} ({})", family, entry.name, entry.equation);
-                describe(&name, entry.axes, &indices)
+                describe(&entry.title(), entry.axes, &indices)
             }
             None => format!("no row {number}"),
         }

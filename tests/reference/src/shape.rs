@@ -145,6 +145,18 @@ impl Shape {
     }
 }
 
+/// Whether the indices name a pair of zones that is one zone: z = z2.
+pub fn is_within_zone(axes: &[Axis], indices: &[usize]) -> bool {
+    let index_of = |wanted: Axis| {
+        let place = axes.iter().position(|&axis| axis == wanted)?;
+        Some(indices[place])
+    };
+    match (index_of(Axis::Zone), index_of(Axis::OtherZone)) {
+        (Some(zone), Some(other)) => zone == other,
+        _ => false,
+    }
+}
+
 /// A table's, column's or row's place in words, such as `gen[y 0, g 1, s 5]`.
 pub fn describe(name: &str, axes: &[Axis], indices: &[usize]) -> String {
     let parts: Vec<String> = axes

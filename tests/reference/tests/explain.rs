@@ -1,9 +1,10 @@
 //! The explain program's sentences, written out by hand.
 
+use epm_reference::columns::Column;
 use epm_reference::coverage::text;
 use epm_reference::data::{DataLayout, Table};
 use epm_reference::explain;
-use epm_reference::generator::draft::Case;
+use epm_reference::generator::draft::{Case, Draft};
 use epm_reference::generator::frames::{join, plain_lines};
 use epm_reference::generator::stations::stations;
 use epm_reference::generator::{case, sound_case};
@@ -94,8 +95,8 @@ fn refusals_of_the_data() {
         "R 1 6\nShape: entry 6 of DATA, the number of years: it is 0 and must be from 1 to 10\n"
     );
     assert_eq!(
-        station(|case| case.data.truncate(51)),
-        "R 2 52\nData length: DATA has 51 numbers and must have 52\n"
+        station(|case| case.data.truncate(54)),
+        "R 2 55\nData length: DATA has 54 numbers and must have 55\n"
     );
     assert_eq!(
         explained(b""),
@@ -113,6 +114,16 @@ fn refusals_of_the_data() {
         station(|case| case.data[50] = 1001),
         "R 3 50\nEntry: entry 50 of DATA, efficiency, plant 1: it is 1001 and must be from 0 to 1000\n"
     );
+    for (place, table) in [
+        (52, "line limit"),
+        (53, "MW per line"),
+        (54, "line annuity"),
+    ] {
+        assert_eq!(
+            station(|case| case.data[place] = 1),
+            format!("R 3 {place}\nEntry: entry {place} of DATA, {table}, zone 1, to zone 1: it is 1 and must be from 0 to 0\n")
+        );
+    }
     let sun_battery = station(|case| {
         case.data[14] = 1;
         case.data[49] = 1;
@@ -131,7 +142,7 @@ fn refusals_of_the_plan() {
     );
     assert_eq!(
         station(|case| case.plan.truncate(9)),
-        "R 5 12\nPlan length: PLAN has 9 numbers and must have 12\n"
+        "R 5 14\nPlan length: PLAN has 9 numbers and must have 14\n"
     );
     // N·10^9·MaxCapital of the capital row; the entries before it are N times the station's.
     let off_scale = station(|case| {
@@ -144,7 +155,7 @@ fn refusals_of_the_plan() {
     // All demand unmet at scale 2, at 10^5·(2^32 − 1) a kW.
     let dear = station(|case| {
         case.scale = 2;
-        case.plan = vec![20, 0, 0, 0, 0, 0, 16_000, 0, 0, 0, 0, 0];
+        case.plan[..7].copy_from_slice(&[20, 0, 0, 0, 0, 0, 16_000]);
         case.data[43] = u32::MAX;
     });
     assert_eq!(
@@ -157,7 +168,7 @@ fn refusals_of_the_plan() {
 fn refusals_of_the_multipliers() {
     assert_eq!(
         station(|case| case.multipliers.truncate(19)),
-        "R 9 25\nMultiplier count: DUAL has 19 numbers and must have 25\n"
+        "R 9 28\nMultiplier count: DUAL has 19 numbers and must have 28\n"
     );
     assert_eq!(station(|case| case.multipliers[0] = i64::MIN), "R 10 0\nMultiplier: row 0, equation (14) demand balance, year 1, zone 1, season 1, day 1, hour 1: it is -9223372036854775808 and must be from -2^40 to 2^40\n");
     assert_eq!(station(|case| case.multipliers[11] = (1 << 40) + 1), "R 10 11\nMultiplier: row 11, equation (34) capacity balance, year 1, plant 1: it is 1099511627777 and must be from -2^40 to 2^40\n");
@@ -288,6 +299,61 @@ fn rows_and_columns_of_a_battery() {
     }
     let vre = battery(|input| input.data[29] = 1);
     assert_eq!(vre, "Storage: plant 4 is a battery and has VRE set");
+}
+
+/// Two zones of one plant, a line of 3 MW towards zone 2 that may be built four times in
+/// two years, and what is said after a change.
+fn isles(change: impl FnOnce(&mut Draft)) -> String {
+    let mut draft = Draft::empty(Shape::new([2, 1, 1, 1, 1, 1, 2]), 1);
+    draft.set_data(Table::Year, &[0], 3);
+    for y in 0..2 {
+        draft.set_data(Table::ReturnRate, &[y], 1000);
+        draft.set_data(Table::Weight, &[y], 1);
+    }
+    for link in [[0, 1], [1, 0]] {
+        draft.set_data(Table::LineLimit, &link, 4);
+        draft.set_data(Table::LineAnnuity, &link, 5);
+    }
+    draft.set_data(Table::LineMw, &[0, 1], 3);
+    change(&mut draft);
+    let lines = said(&draft.case);
+    lines.lines().nth(1).expect("two lines").to_string()
+}
+
+/// The families of lines have no equation number. Before them stand 64 rows: 4 + 8 + 4 + 4 of
+/// families 1 to 4, 2 in each of 5 to 14, 1 + 2 + 4 + 1 + 4 + 2 of 15 to 20 and 2 in each of 21
+/// to 25; and 38 columns.
+#[test]
+fn rows_and_columns_of_lines() {
+    let balance = isles(|draft| draft.set_entry(Column::Built, &[1, 1, 0], 2));
+    assert_eq!(balance, "Broken: row 70, line balance, year 2, zone 2, to zone 1: its positive terms come to 0, its negative terms to 2, and the two must be equal");
+    let limit = isles(|draft| {
+        draft.build_lines([0, 0, 1], 5).expect("32 bits");
+    });
+    assert_eq!(limit, "Broken: row 73, new lines, zone 1, to zone 2: its positive terms come to 4, its negative terms to 5, and the first must not be less");
+    let both_ways = isles(|draft| {
+        draft.build_lines([1, 0, 1], 4).expect("32 bits");
+        draft.build_lines([1, 1, 0], 3).expect("32 bits");
+    });
+    assert_eq!(both_ways, "Broken: row 81, lines both ways, year 2, zone 1, to zone 2: its positive terms come to 4, its negative terms to 3, and the two must be equal");
+    for (row, name, least) in [
+        (70, "line balance, year 2, zone 2, to zone 1", "-2^40"),
+        (73, "new lines, zone 1, to zone 2", "0"),
+        (81, "lines both ways, year 2, zone 1, to zone 2", "-2^40"),
+        (83, "lines both ways, year 2, zone 2, to zone 2", "-2^40"),
+    ] {
+        let refused = isles(|draft| draft.case.multipliers[row] = i64::MIN);
+        assert_eq!(refused, format!("Multiplier: row {row}, {name}: it is -9223372036854775808 and must be from {least} to 2^40"));
+    }
+    let built = isles(|draft| draft.set_multiplier(26, &[1, 0, 1], -7));
+    assert_eq!(built, "Underpriced: column 43, built, year 2, zone 1, to zone 2: its terms m*a come to 7 above zero and 0 below, its price is 0, so it is underpriced by 7");
+    let total = isles(|draft| draft.set_multiplier(2, &[0, 0, 1, 0], 2000));
+    assert_eq!(total, "Underpriced: column 47, total, year 1, zone 1, to zone 2: its terms m*a come to 6000 above zero and 0 below, its price is 5000, so it is underpriced by 1000");
+    let off_scale = isles(|draft| {
+        draft.set_data(Table::LineMw, &[0, 1], i128::from(u32::MAX));
+        draft.set_entry(Column::Total, &[1, 0, 1], i128::from(u32::MAX));
+    });
+    assert_eq!(off_scale, "Row off scale: row 9, equation (15) transfer limit, year 2, zone 1, to zone 2, season 1, day 1, hour 1: its positive terms come to more than 2^62 - 1, its negative terms to 0, and neither may be more than 2^62 - 1");
 }
 
 /// The line of certify comes first, and the program has room for both.

@@ -3,18 +3,28 @@
 
 use epm_reference::columns::{Column, ColumnLayout};
 use epm_reference::data::{DataLayout, Table, TABLES};
+use epm_reference::fraction::Fraction;
+use epm_reference::generator::draft::Case;
+use epm_reference::generator::frames::{join, plain_lines};
+use epm_reference::model::Model;
+use epm_reference::optimum::optimum;
 use epm_reference::program::{answer_line, read_lines, Input};
 use epm_reference::rows::RowLayout;
 use epm_reference::shape::Shape;
-use epm_reference::{certify, check, run, Refusal};
+use epm_reference::{certify, check, explain, run, Refusal};
 
 const STATION: &[u8] = include_bytes!("../../../examples/station.txt");
 const TWO_ZONES: &[u8] = include_bytes!("../../../examples/two-zones.txt");
 const BATTERY: &[u8] = include_bytes!("../../../examples/battery.txt");
+const CABLE: &[u8] = include_bytes!("../../../examples/cable.txt");
 const PAGE: &str = include_str!("../../../docs/FORMAT.md");
 
 fn battery() -> Shape {
     Shape::new([1, 4, 2, 1, 1, 4, 1])
+}
+
+fn cable() -> Shape {
+    Shape::new([2, 2, 1, 1, 1, 2, 2])
 }
 
 fn two_zones() -> Shape {
@@ -39,15 +49,17 @@ fn the_examples_are_answered_as_the_page_says() {
     assert_eq!(run(STATION), "A 40000000000 0\n");
     assert_eq!(run(TWO_ZONES), "A 219320800000000 0\n");
     assert_eq!(run(BATTERY), "A 595600000000 0\n");
+    assert_eq!(run(CABLE), "A 93785000000000000 0\n");
 }
 
 #[test]
 fn lengths_of_the_examples() {
     let two_years = Shape::new([2, 4, 2, 1, 1, 6, 2]);
     for (shape, data, columns, rows) in [
-        (battery(), 143, 93, 218),
-        (two_zones(), 92, 44, 80),
-        (two_years, 216, 340, 687),
+        (battery(), 146, 95, 221),
+        (cable(), 134, 104, 177),
+        (two_zones(), 104, 52, 92),
+        (two_years, 228, 356, 707),
     ] {
         assert_eq!(DataLayout::new(shape).length(), data);
         assert_eq!(ColumnLayout::new(shape).count(), columns);
@@ -81,6 +93,9 @@ fn first_entries_of_tables_named_on_the_page() {
     assert_eq!(data.index(Table::Loss, &[0, 0, 1]), 71);
     assert_eq!(data.index(Table::MaxCapital, &[]), 85);
     assert_eq!(data.index(Table::Battery, &[0]), 86);
+    assert_eq!(data.index(Table::LineLimit, &[0, 0]), 92);
+    assert_eq!(data.index(Table::LineMw, &[0, 0]), 96);
+    assert_eq!(data.index(Table::LineAnnuity, &[0, 0]), 100);
 }
 
 #[test]
@@ -111,19 +126,27 @@ fn answers_to_changes_named_on_the_page() {
     let below_zero = |input: &mut Input| input.multipliers[rows.index(15, &[1])] = -1;
     assert_eq!(answer(below_zero), refused(10, rows.index(15, &[1])));
 
-    let short = |input: &mut Input| input.data.truncate(91);
-    assert_eq!(answer(short), refused(2, 92));
+    let short = |input: &mut Input| input.data.truncate(103);
+    assert_eq!(answer(short), refused(2, 104));
 
     let line_within_a_zone = |input: &mut Input| input.data[66] = 1;
     assert_eq!(answer(line_within_a_zone), refused(3, 66));
 }
 
-/// A line of the page's table of changes: a plan, data or multipliers with one thing
+/// A line of a table of changes on the page: an example's plan, data or multipliers
 /// changed, and the answer, which the page names beside the change.
-fn battery_answers(words: &str, change: impl FnOnce(&mut Input)) {
-    let line = answer_line(changed(BATTERY, change));
+fn answers_as_shown(example: &[u8], words: &str, change: impl FnOnce(&mut Input)) {
+    let line = answer_line(changed(example, change));
     let shown = format!("| {words} | `{}` |", line.trim_end());
     assert!(PAGE.contains(&shown), "the page lacks {shown}");
+}
+
+fn battery_answers(words: &str, change: impl FnOnce(&mut Input)) {
+    answers_as_shown(BATTERY, words, change);
+}
+
+fn cable_answers(words: &str, change: impl FnOnce(&mut Input)) {
+    answers_as_shown(CABLE, words, change);
 }
 
 #[test]
@@ -207,6 +230,236 @@ fn the_numbers_of_the_battery_example() {
         multipliers[first..first + part.len()].copy_from_slice(part);
     }
     assert_eq!(input.multipliers, multipliers);
+}
+
+/// Entries of a list by their places.
+fn set<T: Copy>(list: &mut [T], numbers: &[(usize, T)]) {
+    for &(place, number) in numbers {
+        list[place] = number;
+    }
+}
+
+/// The plan of the cable example with engines in the line's place.
+fn without_line(input: &mut Input) {
+    input.plan[88..104].fill(0);
+    set(
+        &mut input.plan,
+        &[
+            (1, 4200),
+            (5, 4200),
+            (3, 7200),
+            (7, 3000),
+            (13, 30_000),
+            (15, 4200),
+            (17, 33_000),
+            (19, 7200),
+            (31, 5000),
+            (39, 5000),
+            (69, 700_000),
+            (71, 1_000_000),
+        ],
+    );
+}
+
+/// What the rows of the cable example are worth where no line is built.
+fn worth_without_line(input: &mut Input) {
+    set(
+        &mut input.multipliers,
+        &[
+            (3, 1_375_000_000),
+            (11, 720_000_000_000),
+            (39, 500_000_000),
+            (158, 0),
+            (162, 0),
+            (166, 0),
+        ],
+    );
+}
+
+#[test]
+fn answers_to_changes_of_plan_and_data_of_the_cable_example() {
+    cable_answers("columns 97 and 98 (total in year 1) 1000 each", |input| {
+        input.plan[97..99].fill(1000);
+    });
+    cable_answers(
+        "column 90 (built 1→0 in year 1) 874, columns 98 and 102 (total 1→0) 874 and 999",
+        |input| set(&mut input.plan, &[(90, 874), (98, 874), (102, 999)]),
+    );
+    cable_answers("place 123 (line limit 0→1) 0", |input| {
+        input.data[123] = 0
+    });
+    cable_answers(
+        "columns 88, 96 and 100 (built and total 0→0) 1 each",
+        |input| set(&mut input.plan, &[(88, 1), (96, 1), (100, 1)]),
+    );
+    cable_answers("columns 89, 90, 97 and 98 (built and total in year 1) 1000 each, columns 93 and 94 (built in year 2) 0", |input| {
+        input.plan[89..91].fill(1000);
+        input.plan[97..99].fill(1000);
+        input.plan[93..95].fill(0);
+    });
+    cable_answers("no line", without_line);
+    cable_answers("place 132 (line annuity 1→0) 0", |input| {
+        input.data[132] = 0;
+    });
+    cable_answers("place 130 (line annuity 0→0) 1", |input| {
+        input.data[130] = 1;
+    });
+    cable_answers(
+        "place 127 (MW per line 0→1) and column 97 (total 0→1 in year 1) 4294967295 each",
+        |input| {
+            input.data[127] = u32::MAX;
+            input.plan[97] = u32::MAX;
+        },
+    );
+}
+
+#[test]
+fn answers_to_changes_of_multipliers_of_the_cable_example() {
+    cable_answers("place 131 (line annuity 0→1) 800000000, no line, rows 3, 11 and 39's multipliers 1375000000, 720000000000 and 500000000, rows 158, 162 and 166's 0", |input| {
+        input.data[131] = 800_000_000;
+        without_line(input);
+        worth_without_line(input);
+    });
+    cable_answers(
+        "place 131 (line annuity 0→1) 720000000, the same multipliers",
+        |input| {
+            input.data[131] = 720_000_000;
+            without_line(input);
+            worth_without_line(input);
+        },
+    );
+    cable_answers("row 166's multiplier 359999999999", |input| {
+        input.multipliers[166] = 359_999_999_999;
+    });
+    cable_answers("row 11's multiplier 600000000001", |input| {
+        input.multipliers[11] = 600_000_000_001;
+    });
+    cable_answers("row 166's multiplier −1", |input| {
+        input.multipliers[166] = -1;
+    });
+    cable_answers("row 171's multiplier −1 (family 28, 1→0)", |input| {
+        input.multipliers[171] = -1;
+    });
+}
+
+/// The page has what explain says of two of these changes.
+#[test]
+fn the_cable_example_explained() {
+    let mut first = read_lines(CABLE).expect("no Frame");
+    first.plan[97..99].fill(1000);
+    let mut third = read_lines(CABLE).expect("no Frame");
+    third.data[123] = 0;
+    for input in [first, third] {
+        let case = Case {
+            scale: input.scale(),
+            data: input.data,
+            plan: input.plan,
+            multipliers: input.multipliers,
+            ..Case::default()
+        };
+        let lines = explain(&join(&plain_lines(&case, 64)));
+        let lines = String::from_utf8(lines).expect("ASCII");
+        let sentence = lines.lines().nth(1).expect("two lines");
+        assert!(PAGE.contains(sentence), "the page lacks {sentence}");
+    }
+}
+
+/// What the page prints of the cable example: places with their tables, entries and
+/// multipliers; all entries and multipliers beside them are 0.
+#[test]
+fn the_numbers_of_the_cable_example() {
+    let input = read_lines(CABLE).expect("no Frame");
+    let data = DataLayout::new(cable());
+    for (table, first, numbers) in [
+        (Table::ReturnRate, 7, vec![1000, 600]),
+        (Table::Weight, 9, vec![5, 5]),
+        (Table::Duration, 11, vec![6260, 2500]),
+        (Table::GenCap, 22, vec![45, 0]),
+        (Table::MaxNewCap, 26, vec![0, 20]),
+        (Table::Demand, 64, vec![18, 25, 3, 9, 20, 28, 3, 12]),
+        (Table::Tl, 82, vec![0, 5, 5, 0, 0, 5, 5, 0]),
+        (Table::Loss, 90, vec![0, 40, 40, 0, 0, 40, 40, 0]),
+        (Table::ResVoll, 112, vec![10_000]),
+        (Table::LineLimit, 122, vec![0, 1, 1, 0]),
+        (Table::LineMw, 126, vec![0, 5, 5, 0]),
+        (
+            Table::LineAnnuity,
+            130,
+            vec![0, 600_000_000, 600_000_000, 0],
+        ),
+    ] {
+        let axes = TABLES[table as usize].axes;
+        assert_eq!(data.index(table, &vec![0; axes.len()]), first, "{table:?}");
+        let end = first + numbers.len();
+        assert_eq!(input.data[first..end], numbers, "{table:?}");
+    }
+    let mut plan = vec![0; input.plan.len()];
+    for (first, entries) in [
+        (0, &[45_000, 0, 45_000, 2400][..]),
+        (7, &[2400]),
+        (12, &[21_125, 34_375, 0, 0, 23_125, 38_000, 0, 2400]),
+        (30, &[3125, 9375]),
+        (38, &[3125, 10_000]),
+        (69, &[4_900_000, 0, 5_800_000]),
+        (89, &[875, 875]),
+        (93, &[125, 125]),
+        (97, &[875, 875]),
+        (101, &[1000, 1000]),
+    ] {
+        plan[first..first + entries.len()].copy_from_slice(entries);
+    }
+    assert_eq!(input.plan, plan);
+    let mut multipliers = vec![0; input.multipliers.len()];
+    let balance = [
+        1_502_400_000,
+        600_000_000,
+        1_565_000_000,
+        1_250_000_000,
+        901_440_000,
+        360_000_000,
+        939_000_000,
+        825_000_000,
+    ];
+    multipliers[..balance.len()].copy_from_slice(&balance);
+    set(
+        &mut multipliers,
+        &[
+            (11, 600_000_000_000),
+            (19, 432_000_000_000),
+            (33, 50_000_000),
+            (35, 30_000_000),
+            (39, 375_000_000),
+            (43, 300_000_000),
+            (158, -360_000_000_000),
+            (162, -360_000_000_000),
+            (166, 360_000_000_000),
+        ],
+    );
+    assert_eq!(input.multipliers, multipliers);
+}
+
+/// The cable example was worked out by hand; the simplex finds the same least cost, and the
+/// page's least costs at the other annuities.
+#[test]
+fn the_cable_example_is_of_least_cost() {
+    for (annuity, cost) in [
+        (600_000_000, 93_785_000),
+        (720_000_000, 94_670_000),
+        (800_000_000, 94_670_000),
+    ] {
+        let mut input = read_lines(CABLE).expect("no Frame");
+        input.data[131] = annuity;
+        let model = Model::read(&input.data).expect("sound data");
+        let found = optimum(&model).expect("an optimum");
+        let mut least = Fraction::ZERO;
+        for (column, &entry) in found.entries.iter().enumerate() {
+            let price = Fraction::whole(model.price(column));
+            let part = entry.times(price).expect("128 bits");
+            least = least.plus(part).expect("128 bits");
+        }
+        let millionths = 1_000_000 * cost;
+        assert_eq!((least.numerator, least.denominator), (millionths, 1));
+    }
 }
 
 /// The same plan rounded to whole MW: what comes too much is surplus, in kW.

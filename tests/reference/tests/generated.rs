@@ -7,7 +7,9 @@ use epm_reference::generator::damage::{
 };
 use epm_reference::generator::draft::{Case, Draft};
 use epm_reference::generator::random::Random;
-use epm_reference::generator::{damaged_case, extremes, optimal, shape, solved, sound_case};
+use epm_reference::generator::{
+    damaged_case, extremes, linked, optimal, shape, solved, sound_case,
+};
 use epm_reference::refusal::{ENTRY, MULTIPLIER, OF_ALL_CALLS, OF_CERTIFY};
 use epm_reference::rows::{RowLayout, FAMILIES, FAMILY_COUNT};
 use epm_reference::shape::Shape;
@@ -150,6 +152,39 @@ fn solved_cases_with_a_battery_have_gap_zero() {
     }
 }
 
+/// The optimum of two isles by the same simplex: the gap is 0 where lines are built, which
+/// may be in either year and in fractions of a line, and where they are not worth it.
+#[test]
+fn solved_cases_with_lines_have_gap_zero() {
+    let mut worth = [0_u64; FAMILY_COUNT];
+    let (mut built, mut not_built, mut later, mut fractions) = (0, 0, 0, 0);
+    for seed in 0..SEEDS {
+        let draft = linked::draft(&mut Random::new(seed));
+        let case = &draft.case;
+        let (cost, gap) = certify_case(case).expect("an optimal case");
+        assert_eq!(gap, 0, "seed {seed}");
+        assert!(cost > 0, "seed {seed}");
+        let lines = |y: usize| draft.entry(Column::Built, &[y, 0, 1]);
+        let last_year = draft.shape.years - 1;
+        let total = draft.entry(Column::Total, &[last_year, 0, 1]);
+        built += u64::from(total > 0);
+        not_built += u64::from(total == 0);
+        later += u64::from(last_year > 0 && lines(last_year) > 0);
+        fractions += u64::from(total % draft.scale() != 0);
+        for family in &FAMILIES {
+            let mut rows = draft.rows.of_family(family.number);
+            let used = rows.any(|row| case.multipliers[row] != 0);
+            worth[family.number - 1] += u64::from(used);
+        }
+    }
+    println!("built {built}, not built {not_built}, in the second year {later}");
+    println!("fractions {fractions}, families with multipliers {worth:?}");
+    assert!(built > 0 && not_built > 0 && later > 0 && fractions > 0);
+    for family in [1, 2, 3, 5, 12, 26, 27, 28] {
+        assert!(worth[family - 1] > 0, "family {family}");
+    }
+}
+
 /// A later shape of full size is made by the same functions.
 #[test]
 fn generator_is_a_function_of_its_seed() {
@@ -275,7 +310,7 @@ fn entry_ranges_end_where_the_page_says() {
             let size = draft.shape.size(entry.axes);
             let place = random.below(size as u64) as usize;
             let indices = draft.shape.indices(entry.axes, place);
-            for (inside, outside) in entry_edges(&draft, entry.range, &indices) {
+            for (inside, outside) in entry_edges(&draft, entry, &indices) {
                 let index = draft.layout.index(entry.table, &indices);
                 let mut at = draft.clone();
                 at.set_data(entry.table, &indices, i128::from(outside));

@@ -2,9 +2,10 @@
 //! than the certificate allows.
 
 use epm_reference::certify;
+use epm_reference::columns::Column;
 use epm_reference::generator::draft::Case;
 use epm_reference::generator::random::Random;
-use epm_reference::generator::{optimal, shape, solved, sound_case};
+use epm_reference::generator::{linked, optimal, shape, solved, sound_case};
 use epm_reference::model::Model;
 use epm_reference::rival::{evaluate, within_certificate};
 use epm_reference::rival_count::RivalCount;
@@ -34,6 +35,7 @@ fn no_rival_is_below_a_drawn_certificate() {
     let count = count_rivals(31, |random, seed| sound_case(shape(random), seed));
     assert!(count.cheaper_than_the_plan > 0);
     assert!(count.charging_otherwise > 0);
+    assert!(count.building_lines_otherwise > 0);
     assert!(count.bounded_above_zero > 0);
     assert!(count.wide_entries > 0);
 }
@@ -56,6 +58,41 @@ fn no_rival_is_below_an_optimal_certificate_with_a_battery() {
     assert!(count.at_the_bound > 0);
 }
 
+/// The same with lines, beside rivals that build them as they like, in any fractions.
+#[test]
+fn no_rival_is_below_an_optimal_certificate_with_lines() {
+    let count = count_rivals(35, |_, seed| linked::draft(&mut Random::new(seed)).case);
+    assert_eq!(count.cheaper_than_the_plan, 0);
+    assert!(count.building_lines_otherwise > 0);
+    assert!(count.finer_lines > 0);
+    assert!(count.at_the_bound > 0);
+}
+
+/// A rival with one Mth of a line more in one direction, and none more in the other, is
+/// not feasible.
+#[test]
+fn rival_with_lines_one_way_is_told() {
+    for seed in 0..40 {
+        let draft = linked::draft(&mut Random::new(seed));
+        let case = &draft.case;
+        let factor = 1 << 20;
+        let finer = |&entry: &u32| u128::from(entry) * u128::from(factor);
+        let mut entries: Vec<u128> = case.plan.iter().map(finer).collect();
+        let scale = u64::from(case.scale) * factor;
+        let found = evaluate(&case.data, scale, &entries).expect("sound data");
+        assert_eq!(found.first_broken, None);
+        let last_year = draft.shape.years - 1;
+        for column in [Column::Built, Column::Total] {
+            entries[draft.columns.index(column, &[last_year, 1, 0])] += 1;
+        }
+        let found = evaluate(&case.data, scale, &entries).expect("sound data");
+        let limit = draft.rows.index(27, &[1, 0]);
+        let both_ways = draft.rows.index(28, &[last_year, 0, 1]);
+        let broken = found.first_broken.expect("a broken row");
+        assert!([limit, both_ways].contains(&broken), "seed {seed}");
+    }
+}
+
 /// A rival whose balance is off by one Mth of a kW is not feasible.
 #[test]
 fn rival_off_by_one_is_told() {
@@ -75,9 +112,7 @@ fn rival_off_by_one_is_told() {
         assert_eq!(found.first_broken, None);
         let plan_cost = model.cost(&case.plan) * u128::from(factor);
         assert_eq!(found.cost.to_u128(), Some(plan_cost));
-        let unmet = model
-            .columns
-            .index(epm_reference::columns::Column::Unmet, &[0, 0, 0]);
+        let unmet = model.columns.index(Column::Unmet, &[0, 0, 0]);
         entries[unmet] += 1;
         let found = evaluate(&case.data, scale, &entries).expect("sound data");
         assert_eq!(found.first_broken, Some(0));

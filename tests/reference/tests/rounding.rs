@@ -7,6 +7,8 @@
 //! (`mps 437 1254`); the example with MaxCapital 1200; and that with row 440, the
 //! capital, fixed at 1 and at 2.
 
+use epm_reference::calls::LARGEST_MULTIPLIER;
+use epm_reference::columns::{Column, ColumnLayout};
 use epm_reference::data::{read_shape, DataLayout, Table, TABLES};
 use epm_reference::generator::{self, Generated};
 use epm_reference::model::Model;
@@ -20,6 +22,7 @@ const PAGE: &str = include_str!("../../../docs/FORMAT.md");
 const TWO_YEARS: &[u8] = include_bytes!("../../../examples/two-years.txt");
 const TWO_ZONES: &[u8] = include_bytes!("../../../examples/two-zones.txt");
 const BATTERY: &[u8] = include_bytes!("../../../examples/battery.txt");
+const CABLE: &[u8] = include_bytes!("../../../examples/cable.txt");
 
 const SOLVED: &str = include_str!("../solutions/two-years.sol");
 const GAS_1254: &str = include_str!("../solutions/two-years-gas-1254.sol");
@@ -236,6 +239,10 @@ fn changes(table: Table) -> (Change, Change) {
         Table::Tax | Table::MaxCapital => (TenTimes, Stays),
         Table::Battery | Table::Efficiency => (Stays, Stays),
         Table::EnergyCapacity => (Stays, TenTimes),
+        // A line is a line in every unit of power, and its annuity is by line.
+        Table::LineLimit => (Stays, Stays),
+        Table::LineMw => (Stays, TenTimes),
+        Table::LineAnnuity => (TenTimes, Stays),
     }
 }
 
@@ -309,7 +316,7 @@ fn tenth(number: i64) -> i64 {
 /// An example with 100 kW in the place of a MW is the same system: the same cost and gap.
 #[test]
 fn a_unit_of_100_kw() {
-    for example in [TWO_ZONES, BATTERY] {
+    for example in [TWO_ZONES, BATTERY, CABLE] {
         hold_in_100_kw(read_lines(example).expect("no Frame"));
     }
 }
@@ -319,11 +326,19 @@ fn hold_in_100_kw(mut input: Input) {
     let scale = input.scale();
     let before = certify(&input.data, scale, &input.plan, &input.multipliers);
     change(&mut input.data, shape, power);
-    input.plan.iter_mut().for_each(|entry| *entry *= 10);
-    // Families 17 to 20 count fuel, money and kg; the multipliers of all others are for power.
+    // Built and total count lines; all other entries are of power.
+    let columns = ColumnLayout::new(shape);
+    for (column, entry) in input.plan.iter_mut().enumerate() {
+        let table = columns.locate(column).map(|found| found.0);
+        if !matches!(table, Some(Column::Built | Column::Total)) {
+            *entry *= 10;
+        }
+    }
+    // Families 17 to 20 count fuel, money and kg, 26 to 28 lines; the multipliers of all others
+    // are for power.
     let rows = RowLayout::new(shape);
     for (row, multiplier) in input.multipliers.iter_mut().enumerate() {
-        if !matches!(rows.family(row), Some(17..=20)) {
+        if !matches!(rows.family(row), Some(17..=20 | 26..=28)) {
             *multiplier = tenth(*multiplier);
         }
     }
@@ -378,6 +393,49 @@ fn rounded_plans_are_accepted() {
         }
     }
     assert!(accepted > 100, "{accepted} plans accepted");
+}
+
+/// The cable example as a solver's figures: at its own scale the steps give its plan, and
+/// multipliers of the same gap. At a scale that has no eighths the lines are rounded up, to the
+/// limit and no further, alike in both directions.
+#[test]
+fn lines_are_rounded_within_their_limit() {
+    let input = read_lines(CABLE).expect("no Frame");
+    let model = Model::read(&input.data).expect("sound data");
+    let plan = input.plan.iter();
+    let entries: Vec<f64> = plan.map(|&entry| f64::from(entry) / 1000.0).collect();
+    assert_eq!(rounding::plan(&model, 1000, &entries, true), input.plan);
+    let solved: Vec<f64> = input.multipliers.iter().map(|&m| m as f64).collect();
+    let multipliers = rounding::multipliers(&model, &solved, true);
+    let answer = certify(&input.data, 1000, &input.plan, &multipliers);
+    assert_eq!(answer_line(answer), run(CABLE));
+    const SCALE: u32 = 7;
+    let plan = rounding::plan(&model, SCALE, &entries, true);
+    assert!(check(&input.data, SCALE, &plan).is_ok());
+    for [z, z2] in [[0, 1], [1, 0]] {
+        let entry = |column, y: usize| plan[model.columns.index(column, &[y, z, z2])];
+        // 7/8 and 1/8 of a line are 6.125 and 0.875 Nths: 7 and 1 would be 8 of 7.
+        let built = [entry(Column::Built, 0), entry(Column::Built, 1)];
+        let total = [entry(Column::Total, 0), entry(Column::Total, 1)];
+        assert_eq!((built, total), ([6, 1], [6, 7]));
+    }
+}
+
+/// A line so dear that it would have to earn more than 2^40: the steps take 2^40 in that place,
+/// and certify accepts the multipliers.
+#[test]
+fn a_dear_line_is_no_multiplier_out_of_range() {
+    let mut input = read_lines(CABLE).expect("no Frame");
+    let shape = read_shape(&input.data).expect("counts in range");
+    let annuity = DataLayout::new(shape).index(Table::LineAnnuity, &[0, 1]);
+    input.data[annuity] = u32::MAX;
+    let model = Model::read(&input.data).expect("sound data");
+    let solved = vec![0.0; input.multipliers.len()];
+    let multipliers = rounding::multipliers(&model, &solved, true);
+    let largest = multipliers.iter().max().copied();
+    assert_eq!(largest, Some(LARGEST_MULTIPLIER));
+    let answer = certify(&input.data, input.scale(), &input.plan, &multipliers);
+    assert!(answer.is_ok(), "{answer:?}");
 }
 
 /// Multipliers that are some units off, mended: a column is never underpriced.

@@ -5,7 +5,7 @@ use epm_reference::generator::stations::{station_data, stations, COLUMNS, ROWS};
 use epm_reference::program::answer_line;
 use epm_reference::{certify, check, run, Refusal};
 
-const DATA_LENGTH: usize = 52;
+const DATA_LENGTH: usize = 55;
 
 /// The station's data written out by hand, as a test of the table list.
 const STATION_BY_HAND: [u32; DATA_LENGTH] = [
@@ -21,6 +21,7 @@ const STATION_BY_HAND: [u32; DATA_LENGTH] = [
     0, 0, 0, 0, 0, // zone cap, system cap, Tax, MaxFuel, BuildLimit
     1000, 0, 0, 0, 0, 0, // VOLL, SurplusPenalty, RESVoLL, SRESVoLL, Err, MaxCapital
     0, 0, 0, // battery, efficiency, energy capacity
+    0, 0, 0, // line limit, MW per line, line annuity
 ];
 
 #[test]

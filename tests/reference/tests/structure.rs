@@ -8,8 +8,9 @@ use epm_reference::data::{Data, DataLayout, Table, TABLES};
 use epm_reference::generator::random::Random;
 use epm_reference::generator::{shape, sound_case, LARGEST_COUNTS};
 use epm_reference::model::Model;
-use epm_reference::rows::{RowLayout, FAMILIES};
+use epm_reference::rows::{RowLayout, FAMILIES, NO_NUMBER};
 use epm_reference::shape::Shape;
+use std::cmp::Ordering;
 
 fn shapes(count: u64) -> Vec<Shape> {
     let mut random = Random::new(11);
@@ -31,12 +32,13 @@ fn lists_of_tables_are_in_the_order_of_their_numbers() {
     }
 }
 
-/// The equation numbers and equality flags of document 01's list and of request (i).
+/// The equation numbers and equality flags of document 01's list and of requests (i) and
+/// (ii); the source prints the rows of lines without a number.
 #[test]
 fn families_have_the_equations_of_the_page() {
     let equations = [
         14, 15, 19, 21, 22, 23, 24, 25, 26, 27, 28, 34, 37, 61, 55, 58, 62, 64, 66, 68, 43, 45, 47,
-        48, 46,
+        48, 46, NO_NUMBER, NO_NUMBER, NO_NUMBER,
     ];
     assert_eq!(FAMILIES.each_ref().map(|family| family.equation), equations);
     let equalities: Vec<usize> = FAMILIES
@@ -44,30 +46,33 @@ fn families_have_the_equations_of_the_page() {
         .filter(|family| family.equality)
         .map(|family| family.number)
         .collect();
-    assert_eq!(equalities, [1, 12, 21]);
+    assert_eq!(equalities, [1, 12, 21, 26, 28]);
 }
 
 #[test]
 fn largest_shape_has_its_numbers() {
     let shape = Shape::new(LARGEST_COUNTS);
-    // Document 01's, and by request (i) five families and two tables of [y,g,s].
+    // Document 01's, by request (i) five families and two tables of [y,g,s], and by
+    // request (ii) two families and two tables of [y,z,z2] and a family of [z,z2].
     let by_plant_and_slice = 10 * 32 * 384;
+    let by_pair = 8 * 8;
+    let by_year_and_pair = 10 * by_pair;
     assert_eq!(
         RowLayout::new(shape).count(),
-        1_047_883 + 5 * by_plant_and_slice
+        1_047_883 + 5 * by_plant_and_slice + 2 * by_year_and_pair + by_pair
     );
     assert_eq!(
         ColumnLayout::new(shape).count(),
-        584_720 + 2 * by_plant_and_slice
+        584_720 + 2 * by_plant_and_slice + 2 * by_year_and_pair
     );
 }
 
 #[test]
 fn one_of_each_has_its_numbers() {
     let shape = Shape::new([1; 7]);
-    assert_eq!(DataLayout::new(shape).length(), 52);
-    assert_eq!(ColumnLayout::new(shape).count(), 12);
-    assert_eq!(RowLayout::new(shape).count(), 25);
+    assert_eq!(DataLayout::new(shape).length(), 55);
+    assert_eq!(ColumnLayout::new(shape).count(), 14);
+    assert_eq!(RowLayout::new(shape).count(), 28);
 }
 
 /// Walks each index set with the last index fastest and counts.
@@ -142,6 +147,8 @@ fn names_tell_family_and_indices() {
     let row = rows.index(7, &[1, 2, 9]);
     assert_eq!(rows.name(row), "7 ramp down (24)[y 1, g 2, s 9]");
     assert_eq!(rows.name(rows.index(18, &[])), "18 capital (64)");
+    let lines = rows.index(27, &[1, 0]);
+    assert_eq!(rows.name(lines), "27 new lines[z 1, z2 0]");
     let columns = ColumnLayout::new(shape);
     let column = columns.index(Column::Trans, &[0, 1, 0, 4]);
     assert_eq!(columns.name(column), "trans[y 0, z 1, z2 0, s 4]");
@@ -313,6 +320,27 @@ fn load_by_column(data: &Data, m: &dyn Fn(usize, &[usize]) -> i128, column: usiz
             };
             m(21, &[y, g, s]) - next - limit
         }
+        Column::Built => {
+            let (y, z, z2) = (i[0], i[1], i[2]);
+            -m(26, &[y, z, z2]) - m(27, &[z, z2])
+        }
+        Column::Total => {
+            let (y, z, z2) = (i[0], i[1], i[2]);
+            // A line adds to what flows from z to z2, and to the reserve of z2.
+            let slices = 0..shape.slices();
+            let flow: i128 = slices.clone().map(|s| m(2, &[y, z, z2, s])).sum();
+            let reserve: i128 = slices.map(|s| m(3, &[y, z2, s])).sum();
+            let mw = data.at(Table::LineMw, &[z, z2]);
+            let mut load = mw * (flow + 1000 * reserve) + m(26, &[y, z, z2]);
+            if y < last_year {
+                load -= m(26, &[y + 1, z, z2]);
+            }
+            match z.cmp(&z2) {
+                Ordering::Less => load + m(28, &[y, z, z2]),
+                Ordering::Equal => load,
+                Ordering::Greater => load - m(28, &[y, z2, z]),
+            }
+        }
     }
 }
 
@@ -385,12 +413,13 @@ fn constant(data: &Data, family: usize, i: &[usize]) -> i128 {
         19 => 1000 * data.at(Table::ZoneCap, i),
         20 => 1000 * data.at(Table::SystemCap, i),
         25 if data.at(Table::Battery, &i[1..2]) == 1 => data.at(Table::EnergyCapacity, &i[1..2]),
+        27 => data.at(Table::LineLimit, i),
         _ => 0,
     }
 }
 
 /// The price of a column in millionths, from the data's own units: mills per MW,
-/// per MWh, per kW and per kWh, times the year's weight in thousandths.
+/// per MWh, per kW, per kWh and per line, times the year's weight in thousandths.
 fn price(data: &Data, column: Column, i: &[usize]) -> i128 {
     let year = i[0];
     let weight = data.at(Table::ReturnRate, &[year]) * data.at(Table::Weight, &[year]);
@@ -408,7 +437,9 @@ fn price(data: &Data, column: Column, i: &[usize]) -> i128 {
         Column::SpinShort => hours(2) * data.at(Table::SresVoll, &[]),
         Column::FirmShort => data.at(Table::ResVoll, &[]),
         Column::Build | Column::Retire | Column::Trans => 0,
-        Column::Charge | Column::Level => 0,
+        Column::Charge | Column::Level | Column::Built => 0,
+        Column::Total if i[1] < i[2] => data.at(Table::LineAnnuity, &i[1..]),
+        Column::Total => 0,
     };
     weight * mills
 }

@@ -2,8 +2,9 @@
 
 use epm_reference::generator::draft::Case;
 use epm_reference::generator::frames::{
-    damaged, fits, join, noise, sound_lines, LineDamage, LINE_DAMAGES,
+    damaged, fits, join, noise, sound_lines, LineDamage, LINE_DAMAGES, MOST_DUAL,
 };
+use epm_reference::generator::large::largest_accepted;
 use epm_reference::generator::random::Random;
 use epm_reference::generator::{case, shape, sound_case};
 use epm_reference::program::{answer_line, read_lines};
@@ -69,6 +70,22 @@ fn damaged_lines_are_frames_at_their_line() {
             );
         }
     }
+}
+
+/// The largest shapes are accepted, and refused for their plan where one number more
+/// follows; one of them has as many rows as DUAL may have numbers.
+#[test]
+fn the_largest_shapes_are_read_whole() {
+    let inputs = largest_accepted();
+    for pair in inputs.chunks(2) {
+        let [(_, whole), (_, longer)] = pair else {
+            panic!("each text with a longer one");
+        };
+        assert!(run(whole).starts_with("A "), "{}", run(whole));
+        assert!(run(longer).starts_with("R 5 "), "{}", run(longer));
+    }
+    let full = |text: &[u8]| read_lines(text).is_ok_and(|read| read.multipliers.len() == MOST_DUAL);
+    assert!(inputs.iter().any(|(_, text)| full(text)));
 }
 
 #[test]

@@ -3,10 +3,11 @@ use mathlib.Core.Path.{refl, _∙_}
 use native.Mathlib.Omega.{arith}
 use Rattle.sums.proofs.ByKind.{only-zero}
 use Rattle.model.specs.Standing.{standing⁺, standing⁻}
+use Rattle.model.specs.Data.{read}
 use Rattle.model.specs.Columns.{columnKindCount}
 use Rattle.tables.proofs.Laws.{last-arm}
 use Rattle.tables.proofs.Members.{column-inside}
-use Rattle.columns.proofs.Arms.{own-indices, by-first, by-slice, by-second, zone-by-slice, zone-row, column-is}
+use Rattle.columns.proofs.Arms.{own-indices, by-first, by-pair, by-slice, by-second, pair-by-year, zone-by-slice, zone-row, column-is}
 use Rattle.columns.proofs.column_sums.Statement.{statement}
 use Rattle.columns.proofs.column_sums.Tie as tie
 
@@ -44,7 +45,13 @@ charge-column-requires : tie.Need-charge-column-requires
 charge-column-requires c κs = by-slice 10 (c .match .keys11) (c .before .before .pre)
 
 level-column-requires : tie.Need-level-column-requires
-level-column-requires c κs = let p = c .before .before .pre in by-slice 11 (last-arm (columnKindCount - 1) (column-inside _ (p .1) .0) (c .match .rest)) p
+level-column-requires c κs = by-slice 11 (c .match .keys12) (c .before .before .pre)
+
+built-column-requires : tie.Need-built-column-requires
+built-column-requires c κs = pair-by-year 12 (c .match .keys13) (c .before .before .pre)
+
+total-column-requires : tie.Need-total-column-requires
+total-column-requires c κs = let p = c .before .before .pre in by-pair 13 (last-arm (columnKindCount - 1) (column-inside _ (p .1) .0) (c .match .rest)) p
 
 returns : tie.Need-returns
 unfolding standing⁺ standing⁻
@@ -95,9 +102,17 @@ returns-11 c = column-is 10 (c .before .match .keys11) (c .before .before .befor
 
 returns-12 : tie.Need-returns-12
 unfolding standing⁺ standing⁻
-returns-12 c =
+returns-12 c = column-is 11 (c .before .match .keys12) (c .before .before .before .pre) (c .level-column .ensures)
+
+returns-13 : tie.Need-returns-13
+unfolding standing⁺ standing⁻
+returns-13 c = column-is 12 (c .before .match .keys13) (c .before .before .before .pre) (c .built-column .ensures (read (c .before .before .before .args .«data» .now)))
+
+returns-14 : tie.Need-returns-14
+unfolding standing⁺ standing⁻
+returns-14 c =
     let p = c .before .before .before .pre in
-    column-is 11 (last-arm (columnKindCount - 1) (column-inside _ (p .1) .0) (c .before .match .rest)) p (c .level-column .ensures)
+    column-is 13 (last-arm (columnKindCount - 1) (column-inside _ (p .1) .0) (c .before .match .rest)) p (c .total-column .ensures)
 
 pub column-sums-spec : {M : Type 1} → statement M
 column-sums-spec =
@@ -115,6 +130,8 @@ column-sums-spec =
     shortfall-column-requires-3
     charge-column-requires
     level-column-requires
+    built-column-requires
+    total-column-requires
     returns
     returns-2
     returns-3
@@ -126,4 +143,6 @@ column-sums-spec =
     returns-9
     returns-10
     returns-11
-    returns-12)
+    returns-12
+    returns-13
+    returns-14)

@@ -102,7 +102,19 @@ returns-24 c = rw (c .match .keys24)
 
 returns-25 : tie.Need-returns-25
 unfolding familyOf
-returns-25 c = rw (last-arm (familyCount - 1) (c .before .pre) (c .match .rest))
+returns-25 c = rw (c .match .keys25)
+
+returns-26 : tie.Need-returns-26
+unfolding familyOf
+returns-26 c = rw (c .match .keys26)
+
+returns-27 : tie.Need-returns-27
+unfolding familyOf
+returns-27 c = rw (c .match .keys27)
+
+returns-28 : tie.Need-returns-28
+unfolding familyOf
+returns-28 c = rw (last-arm (familyCount - 1) (c .before .pre) (c .match .rest))
 
 pub set-of-spec : {M : Type 1} → statement M
 set-of-spec =
@@ -132,4 +144,7 @@ set-of-spec =
     returns-22
     returns-23
     returns-24
-    returns-25)
+    returns-25
+    returns-26
+    returns-27
+    returns-28)

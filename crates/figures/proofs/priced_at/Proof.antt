@@ -13,7 +13,7 @@ column-sums-requires c κs = search needs
 unit-price-requires : tie.Need-unit-price-requires
 unit-price-requires c κs =
     let p = c .before .before .pre in
-    let own = column-inside _ (p .1) in (p .0 .tablesAt, (own .0, (year-inside (p .0 .tablesAt .counted) (own .1), own .1 .first)))
+    let own = column-inside _ (p .1) in (p .0 .tablesAt, (own .0, (year-inside (p .0 .tablesAt .counted) (own .1), (own .1 .first, own .1 .second))))
 
 hours-of-requires : tie.Need-hours-of-requires
 hours-of-requires c κs =

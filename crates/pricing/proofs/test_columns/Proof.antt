@@ -7,25 +7,25 @@ use Rattle.model.specs.Columns.{columnBoxes, columnKindCount}
 use Rattle.model.specs.Tests.{columnFault}
 use Rattle.tables.proofs.Steps.{Going, Walked, ofSecond, ofFirst, ofYear, yearMembers, none, more, turn, walked-none, walked-more, walked-all}
 use Rattle.tables.proofs.Steps.{member-number, member-below, stopped, outcome-fine, outcome-fails}
-use Rattle.pricing.proofs.Steps.{table-below, tables-end, columns-fit, box-is, column-member, first-below, year-below, answered}
+use Rattle.pricing.proofs.Steps.{table-below, tables-end, columns-fit, box-is, column-member, first-below, second-below, year-below, answered}
 use borrow.Author.Needs.{needs}
 use Rattle.pricing.proofs.test_columns.Statement.{statement}
 use Rattle.pricing.proofs.test_columns.Tie as tie
 
 -- Each loop's invariant says what its own level has passed, from the column where it began; a measure is the turns that are left.
 abbrev Inv-loop4 : tie.InvT-loop4
-Inv-loop4 «data» ms tables-at rows-at c answer₀ column₀ k b y i unit j s₀ y-end i-end j-end s-end answer column s =
+Inv-loop4 «data» ms tables-at rows-at c answer₀ column₀ k b y i j unit s₀ y-end i-end j-end s-end answer column s =
     Going (λ s. columnFault (read «data») ms (index k y i j s)) (b .slices) 1 column₀ s column answer
 
 abbrev μ-loop4 : tie.MeasureT-loop4
-μ-loop4 «data» ms tables-at rows-at c answer₀ column₀ k b y i unit j s₀ y-end i-end j-end s-end answer column s = b .slices - s
+μ-loop4 «data» ms tables-at rows-at c answer₀ column₀ k b y i j unit s₀ y-end i-end j-end s-end answer column s = b .slices - s
 
 abbrev Inv-loop3 : tie.InvT-loop3
-Inv-loop3 «data» ms tables-at rows-at c answer₀ column₀ k b y i unit j₀ y-end i-end j-end answer column j =
+Inv-loop3 «data» ms tables-at rows-at c answer₀ column₀ k b y i j₀ y-end i-end j-end answer column j =
     Going (λ j. ofSecond (columnFault (read «data») ms) b k y i j) (b .seconds) (b .slices) column₀ j column answer
 
 abbrev μ-loop3 : tie.MeasureT-loop3
-μ-loop3 «data» ms tables-at rows-at c answer₀ column₀ k b y i unit j₀ y-end i-end j-end answer column j = b .seconds - j
+μ-loop3 «data» ms tables-at rows-at c answer₀ column₀ k b y i j₀ y-end i-end j-end answer column j = b .seconds - j
 
 abbrev Inv-loop2 : tie.InvT-loop2
 Inv-loop2 «data» ms tables-at rows-at c answer₀ column₀ k b y i₀ y-end i-end answer column i =
@@ -74,19 +74,20 @@ loop-holds c = none (c .before .before .walk .inv .accepted)
 loop2-holds : here tie.Need-loop2-holds
 loop2-holds c = none (c .before .loop .inv .accepted)
 
+loop3-holds : here tie.Need-loop3-holds
+loop3-holds c = none (c .before .loop2 .inv .accepted)
+
 unit-price-requires : here tie.Need-unit-price-requires
 unit-price-requires c κs =
-    let c4 = c .before .before .before .before in
-    let p = c4 .before .before .before .before .pre in
-    let l = c4 .before .walk-test .taken in
-    let b = c4 .column-box .ensures .0 in
-    (p .tablesAt, (l, (year-below _ l b (p .tablesAt .counted) (c .before .before .loop-test .taken), first-below _ l b (c .loop2-test .taken))))
-
-loop3-holds : here tie.Need-loop3-holds
-loop3-holds c = none (c .before .before .loop2 .inv .accepted)
+    let c6 = c .before .before .before .before .before .before in
+    let p = c6 .before .before .before .before .pre in
+    let l = c6 .before .walk-test .taken in
+    let b = c6 .column-box .ensures .0 in
+    let hy = year-below _ l b (p .tablesAt .counted) (c .before .before .before .before .loop-test .taken) in
+    (p .tablesAt, (l, (hy, (first-below _ l b (c .before .before .loop2-test .taken), second-below _ l b (c .loop3-test .taken)))))
 
 loop4-holds : here tie.Need-loop4-holds
-loop4-holds c = none (c .before .loop3 .inv .accepted)
+loop4-holds c = none (c .before .before .loop3 .inv .accepted)
 
 test-column-requires : here tie.Need-test-column-requires
 test-column-requires c κs =
@@ -97,10 +98,10 @@ test-column-requires c κs =
     let b = c8 .before .column-box .ensures .0 in
     let hy = c4 .before .before .before .loop-test .taken in
     let hi = c4 .before .loop2-test .taken in
-    let hj = c .before .before .loop3-test .taken in
+    let hj = c .before .before .before .loop3-test .taken in
     let hs = c .loop4-test .taken in
-    let number = member-number (c8 .before .before .before .walk .inv) (table-below _ l) (box-is _ l b) (c8 .loop .inv) hy (c4 .before .before .loop2 .inv) hi (c .before .before .before .loop3 .inv) hj (c .before .loop4 .inv) hs in
-    (p, (column-member _ l b hy hi hj hs, (c4 .unit-price .ensures, number)))
+    let number = member-number (c8 .before .before .before .walk .inv) (table-below _ l) (box-is _ l b) (c8 .loop .inv) hy (c4 .before .before .loop2 .inv) hi (c4 .loop3 .inv) hj (c .before .loop4 .inv) hs in
+    (p, (column-member _ l b hy hi hj hs, (c .before .before .unit-price .ensures, number)))
 
 enum-told : here tie.Need-enum-told
 enum-told c = search needs
@@ -113,10 +114,10 @@ add-column c =
     let l = c12 .before .walk-test .taken in
     let hy = c8 .before .before .loop-test .taken in
     let hi = c8 .loop2-test .taken in
-    let hj = c4 .before .loop3-test .taken in
+    let hj = c4 .before .before .loop3-test .taken in
     let hs = c .before .before .before .loop4-test .taken in
     let b = c12 .column-box .ensures in
-    let few = member-below (c12 .before .before .walk .inv) (table-below _ l) (box-is _ l (b .0)) (c8 .before .before .before .loop .inv) hy (c8 .before .loop2 .inv) hi (c4 .before .before .loop3 .inv) hj (c4 .loop4 .inv) hs (b .1) in
+    let few = member-below (c12 .before .before .walk .inv) (table-below _ l) (box-is _ l (b .0)) (c8 .before .before .before .loop .inv) hy (c8 .before .loop2 .inv) hi (c4 .before .before .before .loop3 .inv) hj (c4 .loop4 .inv) hs (b .1) in
     record { fits = omega (arith, columns-fit _ few) }
 
 enum-known-r : here tie.Need-enum-known-r
@@ -140,7 +141,7 @@ loop3-less : here tie.Need-loop3-less
 loop3-less c = search needs
 
 loop3-again : here tie.Need-loop3-again
-loop3-again c = turn (c .before .before .before .loop3 .inv) (c .before .before .loop3-test .taken) (c .before .loop4 .inv) (c .loop4-test .left) refl (omega arith)
+loop3-again c = turn (c .before .before .before .before .loop3 .inv) (c .before .before .before .loop3-test .taken) (c .before .loop4 .inv) (c .loop4-test .left) refl (omega arith)
 
 add-i : here tie.Need-add-i
 add-i c = search needs
@@ -149,7 +150,7 @@ loop2-less : here tie.Need-loop2-less
 loop2-less c = search needs
 
 loop2-again : here tie.Need-loop2-again
-loop2-again c = turn (c .before .before .before .before .loop2 .inv) (c .before .before .before .loop2-test .taken) (c .before .loop3 .inv) (c .loop3-test .left) refl (omega arith)
+loop2-again c = turn (c .before .before .before .loop2 .inv) (c .before .before .loop2-test .taken) (c .before .loop3 .inv) (c .loop3-test .left) refl (omega arith)
 
 add-y : here tie.Need-add-y
 add-y c = search needs
@@ -183,12 +184,12 @@ returns-2 c =
     let l = c12 .before .before .walk-test .taken in
     let hy = c8 .before .before .before .loop-test .taken in
     let hi = c8 .before .loop2-test .taken in
-    let hj = c4 .before .before .loop3-test .taken in
+    let hj = c4 .before .before .before .loop3-test .taken in
     let hs = c4 .loop4-test .taken in
     let b = box-is _ l (c12 .before .column-box .ensures .0) in
     let broken = outcome-fails _ (c .before .before .before .test-column .ensures) (c .before .r .given .1) in
     answered _ _ (c12 .before .before .before .before .before .pre .tablesAt .counts)
-    (stopped (c12 .before .before .before .walk .inv) (table-below _ l) b (c12 .loop .inv) hy (c8 .before .before .loop2 .inv) hi (c4 .before .before .before .loop3 .inv) hj (c4 .before .loop4 .inv) hs broken)
+    (stopped (c12 .before .before .before .walk .inv) (table-below _ l) b (c12 .loop .inv) hy (c8 .before .before .loop2 .inv) hi (c8 .loop3 .inv) hj (c4 .before .loop4 .inv) hs broken)
 
 pub test-columns-spec : {M : Type 1} → statement M
 test-columns-spec =
@@ -208,8 +209,8 @@ test-columns-spec =
     column-box-requires
     loop-holds
     loop2-holds
-    unit-price-requires
     loop3-holds
+    unit-price-requires
     loop4-holds
     test-column-requires
     enum-told

@@ -33,6 +33,15 @@ none-if-requires c κs = search needs
 none-if-requires-2 : tie.Need-none-if-requires-2
 none-if-requires-2 c κs = search needs
 
+none-if-requires-3 : tie.Need-none-if-requires-3
+none-if-requires-3 c κs = search needs
+
+none-if-requires-4 : tie.Need-none-if-requires-4
+none-if-requires-4 c κs = search needs
+
+none-if-requires-5 : tie.Need-none-if-requires-5
+none-if-requires-5 c κs = search needs
+
 fixed-range-requires : tie.Need-fixed-range-requires
 fixed-range-requires c κs = search needs
 
@@ -56,12 +65,19 @@ returns-6 : tie.Need-returns-6
 returns-6 c = λ y s. c .none-if2 .ensures ∙ rw (c .before .match .keys6)
 
 returns-7 : tie.Need-returns-7
-returns-7 c =
+returns-7 c = λ y s. c .none-if3 .ensures ∙ rw (c .before .match .keys7)
+
+returns-8 : tie.Need-returns-8
+returns-8 c = λ y s. c .none-if4 .ensures ∙ rw (c .before .match .keys8)
+
+returns-9 : tie.Need-returns-9
+returns-9 c = λ y s. c .none-if5 .ensures ∙ rw (c .before .match .keys9)
+
+returns-10 : tie.Need-returns-10
+returns-10 c =
     λ y s.
-    let n = c .before .match .rest in
     let a = c .before .before .before .args in
-    ap ranged (c .fixed-range .ensures)
-    ∙ fixed-is (a .t) (n .0 .0 .0 .0 .0 .1) (n .0 .0 .0 .0 .1) (n .0 .0 .0 .1) (n .0 .0 .1) (n .0 .1) (n .1) (read (a .«data» .now)) y (a .i) (a .j) s
+    ap ranged (c .fixed-range .ensures) ∙ fixed-is _ (a .t) (c .before .match .rest) (read (a .«data» .now)) y (a .i) (a .j) s
 
 pub range-at-spec : {M : Type 1} → statement M
 range-at-spec =
@@ -76,6 +92,9 @@ range-at-spec =
     is-existing-requires-3
     none-if-requires
     none-if-requires-2
+    none-if-requires-3
+    none-if-requires-4
+    none-if-requires-5
     fixed-range-requires
     returns
     returns-2
@@ -83,4 +102,7 @@ range-at-spec =
     returns-4
     returns-5
     returns-6
-    returns-7)
+    returns-7
+    returns-8
+    returns-9
+    returns-10)

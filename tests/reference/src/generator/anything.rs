@@ -4,7 +4,8 @@ use super::draft::{Case, Draft};
 use super::random::Random;
 use super::shape;
 use crate::calls::LARGEST_MULTIPLIER;
-use crate::data::{Range, Table, TABLES};
+use crate::data::{Range, Table, TableEntry, TABLES};
+use crate::shape::is_within_zone;
 
 fn any_number(random: &mut Random) -> u32 {
     match random.below(4) {
@@ -67,7 +68,7 @@ pub fn any_contents(random: &mut Random) -> Case {
     for entry in &TABLES {
         for place in 0..draft.shape.size(entry.axes) {
             let indices = draft.shape.indices(entry.axes, place);
-            let value = any_within(random, &draft, entry.range, &indices);
+            let value = any_within(random, &draft, entry, &indices);
             draft.set_data(entry.table, &indices, i128::from(value));
         }
     }
@@ -88,10 +89,10 @@ pub fn any_contents(random: &mut Random) -> Case {
 
 /// An entry in range; the kinds of the plants are there already where the range
 /// depends on them.
-fn any_within(random: &mut Random, draft: &Draft, range: Range, indices: &[usize]) -> u64 {
+fn any_within(random: &mut Random, draft: &Draft, entry: &TableEntry, indices: &[usize]) -> u64 {
     let years = draft.shape.years as u64;
     let any = u64::from(any_number(random));
-    match range {
+    match entry.range {
         Range::Any => any,
         Range::Within(least, most) => match random.below(3) {
             0 => u64::from(least),
@@ -104,7 +105,7 @@ fn any_within(random: &mut Random, draft: &Draft, range: Range, indices: &[usize
         Range::ZeroForExisting if !draft.is_candidate(indices[0]) => 0,
         Range::YearByKind if draft.is_candidate(indices[0]) => random.between(1, years),
         Range::YearByKind => random.between(2, years + 1),
-        Range::ZeroWithinZone if indices[1] == indices[2] => 0,
+        Range::ZeroWithinZone if is_within_zone(entry.axes, indices) => 0,
         _ => any,
     }
 }
@@ -112,19 +113,22 @@ fn any_within(random: &mut Random, draft: &Draft, range: Range, indices: &[usize
 /// The plan of zeros over data without demand, reserve or capacity and otherwise
 /// the largest entries: check accepts it at cost 0, so any multipliers reach the
 /// columns. All plants are candidates of zone 0 and fuel 0; every other one is VRE,
-/// the rest are batteries.
+/// the rest are batteries. In half of the cases lines carry nothing and family 26 is 0, so
+/// that totals, which have no price within a zone, leave the gap to be reached.
 pub fn steep(random: &mut Random) -> Case {
     let mut draft = Draft::empty(shape(random), 1);
+    let lines = random.chance(1, 2);
     for entry in &TABLES {
         for place in 0..draft.shape.size(entry.axes) {
             let indices = draft.shape.indices(entry.axes, place);
             let value = match (entry.table, entry.range) {
                 (Table::Demand | Table::SRes | Table::GenCap, _) => 0,
                 (Table::Zone | Table::Fuel, _) => 0,
+                (Table::LineMw, _) if !lines => 0,
                 (Table::Kind | Table::Year, _) => 1,
                 (Table::Vre, _) => (indices[0] % 2) as u32,
                 (Table::Battery, _) => (1 - indices[0] % 2) as u32,
-                (_, Range::ZeroWithinZone) if indices[1] == indices[2] => 0,
+                (_, Range::ZeroWithinZone) if is_within_zone(entry.axes, &indices) => 0,
                 (_, Range::Within(_, most)) => most,
                 _ => u32::MAX,
             };
@@ -134,6 +138,10 @@ pub fn steep(random: &mut Random) -> Case {
     let level = random.below(41);
     for multiplier in &mut draft.case.multipliers {
         *multiplier = random.below(1 + (1 << level)) as i64;
+    }
+    if !lines {
+        let balance = draft.rows.of_family(26);
+        draft.case.multipliers[balance].fill(0);
     }
     draft.case
 }

@@ -7,11 +7,11 @@ use super::needed;
 use super::random::Random;
 use crate::calls::LARGEST_MULTIPLIER;
 use crate::columns::{Column, COLUMNS};
-use crate::data::{Range, Table, TABLES};
+use crate::data::{Range, Table, TableEntry, TABLES};
 use crate::model::Model;
 use crate::refusal;
 use crate::rows::{FAMILIES, FAMILY_COUNT};
-use crate::shape::COUNTS;
+use crate::shape::{is_within_zone, COUNTS};
 use crate::sums::LIMIT;
 
 /// What is known of the answer by construction. Which calls meet a number is in
@@ -51,6 +51,9 @@ pub enum Damage {
     Redispatch,
     /// A battery's charge is moved; its level and unmet or surplus make up for it.
     Recharge,
+    /// More or fewer lines are built in a year, in one direction or in both; the totals
+    /// make up for it.
+    RebuildLines,
     /// An entry of the data is changed, wherever that shows.
     AnyDataEntry,
     CostOffScale,
@@ -66,13 +69,14 @@ pub enum Damage {
     Extreme,
 }
 
-/// Families with a limit in the data. Family 14 has none.
-pub const FAMILIES_WITH_LIMIT: [usize; 24] = [
-    1, 2, 3, 4, 5, 6, 7, 8, 9, 10, 11, 12, 13, 15, 16, 17, 18, 19, 20, 21, 22, 23, 24, 25,
+/// Families with a limit in the data. Families 14, 26 and 28 have none.
+pub const FAMILIES_WITH_LIMIT: [usize; 25] = [
+    1, 2, 3, 4, 5, 6, 7, 8, 9, 10, 11, 12, 13, 15, 16, 17, 18, 19, 20, 21, 22, 23, 24, 25, 27,
 ];
 
-/// Families that a single plan entry can break before all others.
-pub const FAMILIES_WITH_ENTRY: [usize; 11] = [1, 2, 3, 4, 5, 6, 12, 14, 21, 22, 25];
+/// Families that a single plan entry, with those that have to follow it, can break before
+/// all others.
+pub const FAMILIES_WITH_ENTRY: [usize; 14] = [1, 2, 3, 4, 5, 6, 12, 14, 21, 22, 25, 26, 27, 28];
 
 impl Damage {
     pub fn all() -> Vec<Damage> {
@@ -90,6 +94,7 @@ impl Damage {
             Damage::AnyPlanEntry,
             Damage::Redispatch,
             Damage::Recharge,
+            Damage::RebuildLines,
             Damage::AnyDataEntry,
             Damage::CostOffScale,
             Damage::MultiplierCount,
@@ -147,6 +152,10 @@ pub fn damage(
         }
         Damage::Recharge => {
             recharge(random, &mut draft)?;
+            None
+        }
+        Damage::RebuildLines => {
+            rebuild_lines(random, &mut draft)?;
             None
         }
         Damage::AnyDataEntry => {
@@ -284,7 +293,7 @@ fn damage_entry(random: &mut Random, draft: &mut Draft) -> Expected {
         let table = random.pick(&TABLES);
         let place = index(random, draft.shape.size(table.axes));
         let indices = draft.shape.indices(table.axes, place);
-        let edges = entry_edges(draft, table.range, &indices);
+        let edges = entry_edges(draft, table, &indices);
         if edges.is_empty() {
             continue;
         }
@@ -298,11 +307,11 @@ fn damage_entry(random: &mut Random, draft: &mut Draft) -> Expected {
 
 /// The limits of an entry's range as pairs: the last value inside and the first
 /// outside. None where all 32 bits are allowed.
-pub fn entry_edges(draft: &Draft, range: Range, indices: &[usize]) -> Vec<(u32, u32)> {
+pub fn entry_edges(draft: &Draft, entry: &TableEntry, indices: &[usize]) -> Vec<(u32, u32)> {
     let shape = draft.shape;
     let years = shape.years as u32;
     let candidate = || draft.is_candidate(indices[0]);
-    match range {
+    match entry.range {
         Range::Any => vec![],
         Range::Within(0, most) => vec![(most, most + 1)],
         Range::Within(least, most) => vec![(least, least - 1), (most, most + 1)],
@@ -313,7 +322,7 @@ pub fn entry_edges(draft: &Draft, range: Range, indices: &[usize]) -> Vec<(u32, 
         Range::ZeroForCandidate | Range::ZeroForExisting => vec![],
         Range::YearByKind if candidate() => vec![(1, 0), (years, years + 1)],
         Range::YearByKind => vec![(2, 1), (years + 1, years + 2)],
-        Range::ZeroWithinZone if indices[1] == indices[2] => vec![(0, 1)],
+        Range::ZeroWithinZone if is_within_zone(entry.axes, indices) => vec![(0, 1)],
         Range::ZeroWithinZone => vec![],
     }
 }
@@ -360,9 +369,57 @@ fn changed_length(random: &mut Random, length: usize) -> usize {
     }
 }
 
-/// Family 18: a budget of N·10^9·(2^32 − 1) with N above 1. Families 17 and 19
-/// need plants of extreme size, which are among the extremes.
+/// Family 2, 3 or 18. Families 17 and 19 need plants of extreme size, which are among
+/// the extremes.
 fn row_off_scale(random: &mut Random, draft: &mut Draft) -> Option<Expected> {
+    match random.below(3) {
+        0 => capital_off_scale(random, draft),
+        1 => lines_off_scale(random, draft, 2),
+        _ => lines_off_scale(random, draft, 3),
+    }
+}
+
+/// Lines whose MW pass 2^62 − 1 in a year, or stay below it and pass it by the 1000 of
+/// family 3. The rows of the year's first slice come first.
+fn lines_off_scale(random: &mut Random, draft: &mut Draft, family: usize) -> Option<Expected> {
+    let y = index(random, draft.shape.years);
+    let [z, z2] = linked_pair(random, draft)?;
+    let half = 1 << 31;
+    let (mw, total, row) = match family {
+        2 => {
+            let widest = i128::from(u32::MAX);
+            (
+                random.signed(half, widest),
+                random.signed(half, widest),
+                vec![y, z, z2, 0],
+            )
+        }
+        _ => (half, random.signed(half / 64, half / 2), vec![y, z2, 0]),
+    };
+    draft.set_data(Table::LineMw, &[z, z2], mw);
+    draft.set_entry(Column::Total, &[y, z, z2], total);
+    let row = draft.rows.index(family, &row);
+    Some(at_place(refusal::ROW_OFF_SCALE, row))
+}
+
+/// Two zones in any order; none where there is one zone alone.
+fn linked_pair(random: &mut Random, draft: &Draft) -> Option<[usize; 2]> {
+    let pairs = draft.pairs();
+    if pairs.is_empty() {
+        return None;
+    }
+    let [z, z2] = *random.pick(&pairs);
+    Some(*random.pick(&[[z, z2], [z2, z]]))
+}
+
+/// Two zones, or one zone twice.
+fn any_pair(random: &mut Random, draft: &Draft) -> [usize; 2] {
+    let zones = draft.shape.zones;
+    [index(random, zones), index(random, zones)]
+}
+
+/// Family 18: a budget of N·10^9·(2^32 − 1) with N above 1.
+fn capital_off_scale(random: &mut Random, draft: &mut Draft) -> Option<Expected> {
     if draft.case.scale == 1 {
         return None;
     }
@@ -406,8 +463,12 @@ pub fn limits(draft: &Draft, family: usize) -> Vec<Limit> {
                 let needed = needed::transfer_limit(draft, i[0], i[1], i[2], i[3]);
                 least(Table::Tl, &i, needed);
             }
+            for [z, z2] in draft.pairs() {
+                least(Table::LineMw, &[z, z2], needed::line_mw(draft, z, z2));
+                least(Table::LineMw, &[z2, z], needed::line_mw(draft, z2, z));
+            }
             for limit in &mut found {
-                limit.met = draft.data(Table::Tl, &limit.indices);
+                limit.met = draft.data(limit.table, &limit.indices);
             }
         }
         5..=8 => {
@@ -489,6 +550,12 @@ pub fn limits(draft: &Draft, family: usize) -> Vec<Limit> {
             for y in 0..shape.years {
                 let needed = needed::system_emissions(draft, y);
                 least(Table::SystemCap, &[y], needed);
+            }
+        }
+        27 => {
+            for [z, z2] in draft.pairs() {
+                least(Table::LineLimit, &[z, z2], needed::line_limit(draft, z, z2));
+                least(Table::LineLimit, &[z2, z], needed::line_limit(draft, z2, z));
             }
         }
         _ => return rising_limits(draft, family),
@@ -624,25 +691,25 @@ fn break_by_entry(random: &mut Random, draft: &mut Draft, family: usize) -> Opti
     match family {
         1 => {
             let column = *random.pick(&[Column::Unmet, Column::Surplus]);
-            raise(draft, column, &[y, z, s], 1)?;
+            draft.raise(column, &[y, z, s], 1)?;
             Some(broken_row(draft, 1, &[y, z, s]))
         }
         2 => {
             let flow = random.magnitude(1 << 31) + 1;
-            raise(draft, Column::Trans, &[y, z, z, s], flow)?;
+            draft.raise(Column::Trans, &[y, z, z, s], flow)?;
             Some(broken_row(draft, 2, &[y, z, z, s]))
         }
         3 => {
             let asked = 1000 * unit * draft.data(Table::SRes, &[y, z]);
             let over = needed::spinning_supply(draft, y, z, s) - asked;
-            raise(draft, Column::SpinShort, &[y, z, s], -(over + 1))?;
+            draft.raise(Column::SpinShort, &[y, z, s], -(over + 1))?;
             Some(broken_row(draft, 3, &[y, z, s]))
         }
         4 => {
             let margin = 1000 + draft.data(Table::Prm, &[z]);
             let asked = margin * unit * needed::peak(draft, y, z);
             let over = needed::firm_supply(draft, y, z) - asked;
-            raise(draft, Column::FirmShort, &[y, z], -(over + 1))?;
+            draft.raise(Column::FirmShort, &[y, z], -(over + 1))?;
             Some(broken_row(draft, 4, &[y, z]))
         }
         5 => {
@@ -666,7 +733,7 @@ fn break_by_entry(random: &mut Random, draft: &mut Draft, family: usize) -> Opti
                 false if y > 0 => Column::Retire,
                 false => return None,
             };
-            raise(draft, column, &[y, g], 1)?;
+            draft.raise(column, &[y, g], 1)?;
             Some(broken_row(draft, 12, &[y, g]))
         }
         14 => {
@@ -675,12 +742,12 @@ fn break_by_entry(random: &mut Random, draft: &mut Draft, family: usize) -> Opti
                 false if y == 0 => *random.pick(&[Column::Build, Column::Retire]),
                 false => Column::Build,
             };
-            raise(draft, column, &[y, g], 1)?;
+            draft.raise(column, &[y, g], 1)?;
             Some(broken_row(draft, 14, &[y, g]))
         }
         21 | 25 => {
             let g = plant_that(random, draft, |g| draft.is_battery(g) == (family == 21))?;
-            raise(draft, Column::Level, &[y, g, s], 1)?;
+            draft.raise(Column::Level, &[y, g, s], 1)?;
             Some(broken_row(draft, family, &[y, g, s]))
         }
         22 => {
@@ -693,35 +760,70 @@ fn break_by_entry(random: &mut Random, draft: &mut Draft, family: usize) -> Opti
             change_charge(draft, [y, g, s], change)?;
             Some(broken_row(draft, 22, &[y, g, s]))
         }
+        26 => {
+            let [z, z2] = any_pair(random, draft);
+            let column = *random.pick(&[Column::Built, Column::Total]);
+            draft.raise(column, &[y, z, z2], 1)?;
+            Some(broken_row(draft, 26, &[y, z, z2]))
+        }
+        27 => {
+            let [z, z2] = any_pair(random, draft);
+            draft.build_lines([y, z, z2], lines_left(draft, [z, z2]) + 1)?;
+            Some(broken_row(draft, 27, &[z, z2]))
+        }
+        28 => {
+            // One Nth more in one direction, or as many as its limit allows.
+            let [z, z2] = linked_pair(random, draft)?;
+            let left = lines_left(draft, [z, z2]);
+            if left == 0 {
+                return None;
+            }
+            let more = *random.pick(&[1, left]);
+            draft.build_lines([y, z, z2], more)?;
+            Some(broken_row(draft, 28, &[y, z.min(z2), z.max(z2)]))
+        }
         _ => None,
     }
-}
-
-/// Adds to a plan entry; none where the result does not fit.
-fn raise(draft: &mut Draft, column: Column, indices: &[usize], change: i128) -> Option<()> {
-    let value = draft.entry(column, indices) + change;
-    u32::try_from(value).ok()?;
-    draft.set_entry(column, indices, value);
-    Some(())
 }
 
 /// More or less charge of a plant, with unmet or surplus of its zone, and with the
 /// level of a battery up to the end of the day, so that families 1 and 21 still hold.
 fn change_charge(draft: &mut Draft, [y, g, s]: [usize; 3], change: i128) -> Option<()> {
     let z = draft.zone_of(g);
-    raise(draft, Column::Charge, &[y, g, s], change)?;
+    draft.raise(Column::Charge, &[y, g, s], change)?;
     match change > 0 {
-        true => raise(draft, Column::Unmet, &[y, z, s], 1000 * change)?,
-        false => raise(draft, Column::Surplus, &[y, z, s], -1000 * change)?,
+        true => draft.raise(Column::Unmet, &[y, z, s], 1000 * change)?,
+        false => draft.raise(Column::Surplus, &[y, z, s], -1000 * change)?,
     }
     if draft.is_battery(g) {
         let stored = change * draft.data(Table::Efficiency, &[g]);
         let day_end = s - draft.shape.hour_of(s) + draft.shape.hours;
         for later in s..day_end {
-            raise(draft, Column::Level, &[y, g, later], stored)?;
+            draft.raise(Column::Level, &[y, g, later], stored)?;
         }
     }
     Some(())
+}
+
+/// What the limit of a pair leaves to be built, in Nths of a line.
+fn lines_left(draft: &Draft, [z, z2]: [usize; 2]) -> i128 {
+    let limit = draft.scale() * draft.data(Table::LineLimit, &[z, z2]);
+    limit - needed::lines_built(draft, z, z2)
+}
+
+/// More or fewer lines in a year, in one direction or in both.
+fn rebuild_lines(random: &mut Random, draft: &mut Draft) -> Option<()> {
+    let y = index(random, draft.shape.years);
+    let [z, z2] = linked_pair(random, draft)?;
+    let change = match random.chance(1, 2) {
+        true => 1 + random.magnitude(2 * draft.scale()),
+        false => -random.signed(1, draft.entry(Column::Built, &[y, z, z2]).max(1)),
+    };
+    draft.build_lines([y, z, z2], change)?;
+    match random.chance(2, 3) {
+        true => draft.build_lines([y, z2, z], change),
+        false => Some(()),
+    }
 }
 
 /// A battery charges more, or less.
@@ -741,15 +843,15 @@ fn redispatch(random: &mut Random, draft: &mut Draft) -> Option<()> {
     let z = draft.zone_of(g);
     let change = random.magnitude(draft.cap(y, g) + 1);
     if random.chance(1, 2) {
-        raise(draft, Column::Gen, &[y, g, s], change)?;
-        raise(draft, Column::Surplus, &[y, z, s], 1000 * change)
+        draft.raise(Column::Gen, &[y, g, s], change)?;
+        draft.raise(Column::Surplus, &[y, z, s], 1000 * change)
     } else {
-        raise(draft, Column::Gen, &[y, g, s], -change)?;
-        raise(draft, Column::Unmet, &[y, z, s], 1000 * change)
+        draft.raise(Column::Gen, &[y, g, s], -change)?;
+        draft.raise(Column::Unmet, &[y, z, s], 1000 * change)
     }
 }
 
-/// All prices at 32 bits; the annuity stays, since it stands in family 18.
+/// All prices at 32 bits; the annuity of plants stays, since it stands in family 18.
 fn cost_off_scale(draft: &mut Draft) -> Option<Expected> {
     let widest = i128::from(u32::MAX);
     for table in [
@@ -765,6 +867,9 @@ fn cost_off_scale(draft: &mut Draft) -> Option<Expected> {
             draft.set_data(Table::GenCost, &[y, g], widest);
             draft.set_data(Table::FixedOm, &[y, g], widest);
         }
+    }
+    for [z, z2] in draft.pairs() {
+        draft.set_data(Table::LineAnnuity, &[z, z2], widest);
     }
     let model = Model::read(&draft.case.data).expect("sound data");
     let cost = model.cost(&draft.case.plan);
@@ -788,14 +893,14 @@ fn damage_multiplier(random: &mut Random, draft: &mut Draft) -> Expected {
 }
 
 /// Multipliers of 2^40 where coefficients are large: family 18 and 10 in a cap
-/// column, 17 in a gen column.
+/// column, 17 in a gen column, 2 and 3 in a total.
 fn column_off_scale(random: &mut Random, draft: &mut Draft) -> Option<Expected> {
     let largest = i128::from(LARGEST_MULTIPLIER);
     let limit = LIMIT as i128;
     let y = index(random, draft.shape.years);
     let g = index(random, draft.shape.plants);
     let weight = draft.data(Table::ReturnRate, &[y]) * draft.data(Table::Weight, &[y]);
-    match random.below(3) {
+    match random.below(5) {
         0 => {
             let annuity = weight * draft.data(Table::Annuity, &[y, g]);
             if !draft.is_candidate(g) || annuity * largest <= limit {
@@ -816,6 +921,7 @@ fn column_off_scale(random: &mut Random, draft: &mut Draft) -> Option<Expected> 
             let column = draft.columns.index(Column::Cap, &[y, g]);
             Some(at_place(refusal::COLUMN_OFF_SCALE, column))
         }
+        2 => total_off_scale(random, draft),
         _ => {
             let s = index(random, draft.shape.slices());
             let rate = draft.data(Table::HeatRate, &[g]);
@@ -827,6 +933,20 @@ fn column_off_scale(random: &mut Random, draft: &mut Draft) -> Option<Expected> 
             Some(of_number(refusal::COLUMN_OFF_SCALE))
         }
     }
+}
+
+/// A pair of which no line is built may have any MW per line. Its totals are underpriced
+/// then at the latest, and the first year's comes first.
+fn total_off_scale(random: &mut Random, draft: &mut Draft) -> Option<Expected> {
+    let [z, z2] = linked_pair(random, draft)?;
+    if needed::lines_built(draft, z, z2) > 0 {
+        return None;
+    }
+    let s = index(random, draft.shape.slices());
+    draft.set_data(Table::LineMw, &[z, z2], i128::from(u32::MAX));
+    draft.set_multiplier(2, &[0, z, z2, s], i128::from(LARGEST_MULTIPLIER));
+    let column = draft.columns.index(Column::Total, &[0, z, z2]);
+    Some(at_place(refusal::COLUMN_OFF_SCALE, column))
 }
 
 /// Makes a column of the chosen table the first one underpriced.
@@ -844,6 +964,8 @@ fn underprice(random: &mut Random, draft: &mut Draft, column: Column) -> Option<
         Column::FirmShort => lower_price(random, draft, Column::FirmShort),
         Column::Charge => underprice_charge(random, draft),
         Column::Level => underprice_level(random, draft),
+        Column::Built => underprice_built(random, draft),
+        Column::Total => underprice_total(random, draft),
     }
 }
 
@@ -942,7 +1064,8 @@ fn underprice_output(
     Some(underpriced_column(draft, column, &[y, first, s]))
 }
 
-/// Family 2 stands in its transfer alone.
+/// Family 2 stands in its transfer and in its lines' total, which is priced the better
+/// for less of it.
 fn underprice_trans(random: &mut Random, draft: &mut Draft) -> Option<Expected> {
     lower_own_row(random, draft, 2, Column::Trans)
 }
@@ -996,6 +1119,46 @@ fn lower_own_row(
     lower_one(random, draft, column, &lowered)
 }
 
+/// Family 27 of a pair, which stands in its builds alone, is lowered until the build
+/// that has the least to spare is underpriced.
+fn underprice_built(random: &mut Random, draft: &mut Draft) -> Option<Expected> {
+    let [z, z2] = any_pair(random, draft);
+    let years = 0..draft.shape.years;
+    let spare = |y: usize| slack(draft, Column::Built, &[y, z, z2]);
+    let (least, first) = years.map(|y| (spare(y), y)).min()?;
+    raise_multiplier(draft, 27, &[z, z2], -(least + 1))?;
+    Some(underpriced_column(draft, Column::Built, &[first, z, z2]))
+}
+
+/// Family 26 of a year prices that year's total; it lowers the year before and the build.
+/// Family 28 lowers the total of the other direction. The annuity stands in the price of
+/// the pair with the lower zone first, in every year.
+fn underprice_total(random: &mut Random, draft: &mut Draft) -> Option<Expected> {
+    let y = index(random, draft.shape.years);
+    let [z, z2] = any_pair(random, draft);
+    let over = slack(draft, Column::Total, &[y, z, z2]) + 1;
+    let (low, high) = (z.min(z2), z.max(z2));
+    match random.below(3) {
+        1 if z < z2 => raise_multiplier(draft, 28, &[y, low, high], over)?,
+        1 if z > z2 => raise_multiplier(draft, 28, &[y, low, high], -over)?,
+        2 if z < z2 => return lower_annuity(draft, [y, z, z2]),
+        _ => raise_multiplier(draft, 26, &[y, z, z2], over)?,
+    }
+    Some(underpriced_column(draft, Column::Total, &[y, z, z2]))
+}
+
+/// The annuity is put just below what a year's total asks.
+fn lower_annuity(draft: &mut Draft, [y, z, z2]: [usize; 3]) -> Option<Expected> {
+    let weight = draft.data(Table::ReturnRate, &[y]) * draft.data(Table::Weight, &[y]);
+    let price = weight * draft.data(Table::LineAnnuity, &[z, z2]);
+    let asked = price - slack(draft, Column::Total, &[y, z, z2]);
+    if asked <= 0 || weight == 0 {
+        return None;
+    }
+    draft.set_data(Table::LineAnnuity, &[z, z2], (asked - 1) / weight);
+    Some(underpriced_table(Column::Total))
+}
+
 /// All indices of a table of columns.
 fn all_places(draft: &Draft, column: Column) -> Vec<Vec<usize>> {
     let axes = COLUMNS[column as usize].axes;
@@ -1046,18 +1209,31 @@ fn lower_price(random: &mut Random, draft: &mut Draft, column: Column) -> Option
     Some(underpriced_table(column))
 }
 
-/// N·m·k of family 17 past the limit: MaxFuel of 32 bits and a multiplier that
-/// lowers generation's Σ m·a only.
+/// N·m·k of family 17 or 27 past the limit: MaxFuel or a line limit of 32 bits and a
+/// multiplier that lowers the Σ m·a of generation or of builds only.
 fn gap_off_scale(random: &mut Random, draft: &mut Draft) -> Expected {
     let y = index(random, draft.shape.years);
     let z = index(random, draft.shape.zones);
     let f = index(random, draft.shape.fuels);
-    let widest = i128::from(u32::MAX);
-    draft.set_data(Table::MaxFuel, &[y, f], widest);
-    let least = LIMIT as i128 / (1000 * draft.scale() * widest) + 1;
-    let value = draft.multiplier(17, &[y, z, f]).max(least);
-    draft.set_multiplier(17, &[y, z, f], value);
+    match linked_pair(random, draft).filter(|_| random.chance(1, 2)) {
+        Some(pair) => {
+            draft.set_data(Table::LineLimit, &pair, i128::from(u32::MAX));
+            raise_past_gap(draft, 27, &pair, 1);
+        }
+        None => {
+            draft.set_data(Table::MaxFuel, &[y, f], i128::from(u32::MAX));
+            raise_past_gap(draft, 17, &[y, z, f], 1000);
+        }
+    }
     at_place(refusal::GAP_OFF_SCALE, 0)
+}
+
+/// Raises a multiplier until N·m·k is past the limit, k being 2^32 − 1 times a unit.
+fn raise_past_gap(draft: &mut Draft, family: usize, indices: &[usize], unit: i128) {
+    let constant = draft.scale() * unit * i128::from(u32::MAX);
+    let least = LIMIT as i128 / constant + 1;
+    let value = draft.multiplier(family, indices).max(least);
+    draft.set_multiplier(family, indices, value);
 }
 
 /// A year not below Y, or a board with too few places from the start place on.

@@ -123,6 +123,35 @@ impl Draft {
         (0..self.shape.zones).filter(|&z| z != zone).collect()
     }
 
+    /// What the lines of a link carry in a year, from z to z2, in Nths of a MW.
+    pub fn line_capacity(&self, y: usize, z: usize, z2: usize) -> i128 {
+        self.data(Table::LineMw, &[z, z2]) * self.entry(Column::Total, &[y, z, z2])
+    }
+
+    /// Lines built in a year, or fewer where the change is below 0; the totals of that year
+    /// and of those after it follow, as family 26 asks.
+    pub fn build_lines(&mut self, [y, z, z2]: [usize; 3], change: i128) -> Option<()> {
+        self.raise(Column::Built, &[y, z, z2], change)?;
+        for later in y..self.shape.years {
+            self.raise(Column::Total, &[later, z, z2], change)?;
+        }
+        Some(())
+    }
+
+    /// Adds to a plan entry; none where the result does not fit.
+    pub fn raise(&mut self, column: Column, indices: &[usize], change: i128) -> Option<()> {
+        let value = self.entry(column, indices) + change;
+        u32::try_from(value).ok()?;
+        self.set_entry(column, indices, value);
+        Some(())
+    }
+
+    /// All pairs of zones whose first is below the second.
+    pub fn pairs(&self) -> Vec<[usize; 2]> {
+        let zones = 0..self.shape.zones;
+        zones.flat_map(|z2| (0..z2).map(move |z| [z, z2])).collect()
+    }
+
     pub fn is_minimum_load_day(&self, slice: usize) -> bool {
         let day = [self.shape.season_of(slice), self.shape.day_of(slice)];
         self.data(Table::MinimumLoadDay, &day) == 1

@@ -45,6 +45,26 @@ pub fn all() -> Vec<Extreme> {
         fuel_row("fuel row off scale", 2, 6),
         emission_row("emission row on scale", 12, 7),
         emission_row("emission row off scale", 13, 6),
+        transfer_row("transfer row at the limit", 0),
+        transfer_row("transfer row one past the limit", 1),
+        reserve_row("spinning reserve row at the limit", 0),
+        reserve_row("spinning reserve row one past the limit", 1),
+        accepted(
+            "cost at the limit by lines",
+            dear_lines(POWER - 1, POWER + 1),
+            limit,
+            limit,
+        ),
+        refused(
+            "cost past the limit by lines",
+            dear_lines(POWER, POWER),
+            8,
+            0,
+        ),
+        line_column("total at its limit", POWER - 1, POWER + 1, 12),
+        line_column("total past its limit", POWER, POWER, 11),
+        accepted("gap at the limit by a line limit", wide_lines(0), 0, limit),
+        refused("gap past the limit by a line limit", wide_lines(1), 13, 0),
         accepted("column at both limits", steep_column(0), 0, 0),
         refused("column past its positive limit", steep_column(1), 11, 0),
         accepted("column at its negative limit", deep_column(0), 0, 0),
@@ -205,6 +225,75 @@ fn wide_store(past: i128) -> Draft {
     draft.set_data(Table::EnergyCapacity, &[0], POWER + 1);
     draft.set_multiplier(25, &[0, 0, 0], POWER - 1);
     draft.set_multiplier(25, &[0, 0, 1], past);
+    draft
+}
+
+/// Two zones, and lines in both directions, all built in the first year.
+fn laid_lines(total: i128) -> Draft {
+    let mut draft = idle_plant(2, 1);
+    for link in [[0, 1], [1, 0]] {
+        let [z, z2] = link;
+        draft.set_data(Table::LineLimit, &link, total);
+        draft.build_lines([0, z, z2], total).expect("32 bits");
+    }
+    draft
+}
+
+/// Family 2: MW·total is 2^62 − 1, and TL is `past`. At the limit the row holds, and the
+/// flow of zone 1 to itself is the first that is broken: family 3, where 1000 times the
+/// MW stand, comes after it.
+fn transfer_row(name: &'static str, past: i128) -> Extreme {
+    let mut draft = laid_lines(POWER - 1);
+    draft.set_data(Table::LineMw, &[0, 1], POWER + 1);
+    draft.set_data(Table::Tl, &[0, 0, 1, 0], past);
+    draft.set_entry(Column::Trans, &[0, 1, 1, 0], 1);
+    let (number, link) = match past {
+        0 => (7, [0, 1, 1, 0]),
+        _ => (6, [0, 0, 1, 0]),
+    };
+    let row = draft.rows.index(2, &link);
+    refused(name, draft, number, row)
+}
+
+/// Family 3: 1000·2^21·2199023255 and a spinshort of the rest are 2^62 − 1, and `past`
+/// more. At the limit all rows hold; nothing has a price.
+fn reserve_row(name: &'static str, past: i128) -> Extreme {
+    let (mw, total) = (1 << 21, 2_199_023_255);
+    let mut draft = laid_lines(total);
+    draft.set_data(Table::LineMw, &[0, 1], mw);
+    let rest = LIMIT as i128 - 1000 * mw * total;
+    draft.set_entry(Column::SpinShort, &[0, 1, 0], rest + past);
+    let row = draft.rows.index(3, &[0, 1, 0]);
+    match past {
+        0 => accepted(name, draft, 0, 0),
+        _ => refused(name, draft, 6, row),
+    }
+}
+
+/// Cost total·annuity, once for both directions.
+fn dear_lines(total: i128, annuity: i128) -> Draft {
+    let mut draft = laid_lines(total);
+    draft.set_data(Table::LineAnnuity, &[0, 1], annuity);
+    draft.set_data(Table::LineAnnuity, &[1, 0], annuity);
+    draft
+}
+
+/// The total of zone 0 to 1: MW per line·m2. On scale it is still underpriced.
+fn line_column(name: &'static str, mw: i128, multiplier: i128, number: u32) -> Extreme {
+    let mut draft = laid_lines(0);
+    draft.set_data(Table::LineMw, &[0, 1], mw);
+    draft.set_multiplier(2, &[0, 0, 1, 0], multiplier);
+    let column = draft.columns.index(Column::Total, &[0, 0, 1]);
+    refused(name, draft, number, column)
+}
+
+/// A line limit that is worth 2^62 − 1 in one direction, and `past` in the other.
+fn wide_lines(past: i128) -> Draft {
+    let mut draft = laid_lines(0);
+    draft.set_data(Table::LineLimit, &[0, 1], POWER + 1);
+    draft.set_data(Table::LineLimit, &[1, 0], 1);
+    draft.set_multiplier(27, &[0, 1], POWER - 1);
+    draft.set_multiplier(27, &[1, 0], past);
     draft
 }
 

@@ -15,7 +15,7 @@ const FAR: usize = 2_000_000;
 
 /// Of all shapes that fit the program these have the longest text and as many
 /// rows as DUAL may have numbers.
-const LARGEST_SHAPES: [[usize; 7]; 2] = [[8, 15, 8, 1, 1, 1, 10], [6, 25, 5, 1, 1, 2, 5]];
+const LARGEST_SHAPES: [[usize; 7]; 2] = [[8, 28, 8, 4, 1, 1, 2], [7, 32, 6, 2, 1, 2, 2]];
 
 /// Lists as long as the program takes, all 0, at scale 0.
 fn full_lists() -> Case {

@@ -4,7 +4,8 @@
 //! - `sound` makes data and a plan that check accepts, limits near what the
 //!   plan uses; `multipliers` adds multipliers that certify accepts;
 //! - `optimal` makes plans in merit order with multipliers of gap 0, `solved` small
-//!   cases with a battery, of gap 0 by the simplex method;
+//!   cases with a battery and `linked` small cases with lines, of gap 0 by the simplex
+//!   method;
 //! - `damage` changes a sound case so that a chosen refusal is met;
 //! - `extremes` are fixed cases at and just past 2^62 − 1;
 //! - `anything` makes lists of any length and content;
@@ -21,6 +22,7 @@ pub mod draft;
 pub mod extremes;
 pub mod frames;
 pub mod large;
+pub mod linked;
 pub mod multipliers;
 pub mod needed;
 pub mod optimal;
@@ -74,9 +76,9 @@ pub fn scale(random: &mut Random) -> u32 {
 /// The largest counts.
 pub const LARGEST_COUNTS: [usize; 7] = [8, 32, 8, 4, 4, 24, 10];
 
-/// A seed of which sound cases of the largest counts have batteries, and three
+/// A seed of which sound cases of the largest counts have batteries and lines, and three
 /// quarters of their multipliers not 0.
-pub const FULL_SIZE_SEED: u64 = 2;
+pub const FULL_SIZE_SEED: u64 = 13;
 
 /// A sound case of the largest counts.
 pub fn full_size_case() -> Case {
@@ -105,9 +107,10 @@ pub fn case(seed: u64) -> Generated {
         return sound(sound_draft(&mut random, shape), "sound");
     }
     if random.chance(1, 8) {
-        return match random.chance(1, 3) {
-            true => sound(solved::draft(&mut random), "solved"),
-            false => sound(optimal::draft(&mut random), "optimal"),
+        return match random.below(4) {
+            0 => sound(solved::draft(&mut random), "solved"),
+            1 => sound(linked::draft(&mut random), "linked"),
+            _ => sound(optimal::draft(&mut random), "optimal"),
         };
     }
     let all = Damage::all();
@@ -204,7 +207,7 @@ pub fn range_edges(seed: u64) -> Vec<Case> {
         let mut places = vec![];
         for place in 0..shape.size(entry.axes) {
             let indices = shape.indices(entry.axes, place);
-            if !entry_edges(&sound, entry.range, &indices).is_empty() {
+            if !entry_edges(&sound, entry, &indices).is_empty() {
                 places.push(indices);
             }
         }
@@ -212,7 +215,7 @@ pub fn range_edges(seed: u64) -> Vec<Case> {
             continue;
         }
         let indices = random.pick(&places);
-        for (inside, outside) in entry_edges(&sound, entry.range, indices) {
+        for (inside, outside) in entry_edges(&sound, entry, indices) {
             for value in [inside, outside] {
                 let mut case = sound.case.clone();
                 case.data[sound.layout.index(entry.table, indices)] = value;

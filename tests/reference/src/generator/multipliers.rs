@@ -9,7 +9,9 @@
 //! - family 5 takes what generation is still underpriced by, family 6 the same
 //!   for reserve, family 2 for transfers;
 //! - family 12, year by year from the last, prices capacity and retirement;
-//! - family 16 prices builds.
+//! - family 16 prices builds;
+//! - family 28 moves what lines are worth from one direction to the other, family 26,
+//!   year by year from the last, prices their totals, and family 27 their builds.
 //!
 //! The strength is halved until certify accepts, which ends at the latest when
 //! every multiplier is 0.
@@ -88,7 +90,7 @@ fn strength(draft: &Draft, style: Style, halvings: u32) -> Strength {
     let storing = (0..draft.shape.plants).any(|g| draft.is_battery(g));
     let largest_balance = match draft.shape.zones {
         1 if !storing => 1 << 36,
-        _ => 1 << 28,
+        _ => (1 << 28) / line_hours(draft),
     };
     let plant = (largest_plant / years) >> halvings;
     Strength {
@@ -98,6 +100,19 @@ fn strength(draft: &Draft, style: Style, halvings: u32) -> Strength {
         balance: largest_balance >> halvings,
         limits: largest_limits >> halvings,
     }
+}
+
+/// What one unit of family 1 or 3 in every slice of all years may come to in a line's
+/// total, against the 2^12 that the largest multiplier has above those families: at
+/// least 1, and 1 without lines.
+fn line_hours(draft: &Draft) -> i128 {
+    let links = draft
+        .pairs()
+        .into_iter()
+        .flat_map(|[z, z2]| [[z, z2], [z2, z]]);
+    let widest = links.map(|link| draft.data(Table::LineMw, &link)).max();
+    let slices = (draft.shape.years * draft.shape.slices()) as i128;
+    (widest.unwrap_or(0) * slices).max(1)
 }
 
 /// The draft's rows by column, so that a column's Σ m·a is found from its own
@@ -146,6 +161,7 @@ fn attempt(random: &mut Random, draft: &mut Draft, strength: &Strength) {
     repair_transfers(random, draft, strength, &ledger);
     price_capacity(random, draft, strength, &ledger);
     price_builds(random, draft, strength, &ledger);
+    price_lines(random, draft, strength, &ledger);
 }
 
 /// Often 0 is as good a multiplier as any; mostly it is something else.
@@ -165,6 +181,12 @@ fn idle(random: &mut Random) -> i128 {
         1 => 0,
         _ => random.magnitude(LARGEST),
     }
+}
+
+/// A multiplier of an equality whose row is empty.
+fn idle_of_both_signs(random: &mut Random) -> i128 {
+    let sign = *random.pick(&[-1, 1]);
+    sign * idle(random)
 }
 
 /// Families 7 to 11, 13, 14, 23 and 24.
@@ -392,11 +414,10 @@ fn draw_level_rows(
     }
 }
 
-/// Family 21 of a plant that is no battery: rows that read 0 ≥ 0, of both signs.
+/// Family 21 of a plant that is no battery.
 fn draw_empty_level_rows(random: &mut Random, draft: &mut Draft, [y, g]: [usize; 2]) {
     for s in 0..draft.shape.slices() {
-        let sign = *random.pick(&[-1, 1]);
-        let value = sign * idle(random);
+        let value = idle_of_both_signs(random);
         draft.set_multiplier(21, &[y, g, s], value);
     }
 }
@@ -493,4 +514,89 @@ fn price_builds(random: &mut Random, draft: &mut Draft, strength: &Strength, led
             draft.set_multiplier(16, &[y, g], value.min(LARGEST));
         }
     }
+}
+
+/// Families 26, 27 and 28, each pair of zones by itself. The rows of 28 that are empty take
+/// anything.
+fn price_lines(random: &mut Random, draft: &mut Draft, strength: &Strength, ledger: &Ledger) {
+    for z in 0..draft.shape.zones {
+        for z2 in 0..draft.shape.zones {
+            for y in (0..draft.shape.years).rev() {
+                match z < z2 {
+                    true => price_totals(random, draft, strength, ledger, [y, z, z2]),
+                    false => {
+                        let value = idle_of_both_signs(random);
+                        draft.set_multiplier(28, &[y, z, z2], value);
+                    }
+                }
+                if z == z2 {
+                    price_total_within_zone(random, draft, ledger, [y, z]);
+                }
+            }
+        }
+    }
+    for z in 0..draft.shape.zones {
+        for z2 in 0..draft.shape.zones {
+            price_new_lines(random, draft, strength, [z, z2]);
+        }
+    }
+}
+
+/// Families 28 and 26 of a year and of both directions, the lower zone first: 28 as it makes
+/// one of the two totals priced exactly, or as drawn; then 26 the largest that a total
+/// allows, or somewhat less.
+fn price_totals(
+    random: &mut Random,
+    draft: &mut Draft,
+    strength: &Strength,
+    ledger: &Ledger,
+    [y, z, z2]: [usize; 3],
+) {
+    let slack = |draft: &Draft, link: [usize; 3]| {
+        ledger.slack(&draft.case.multipliers, Column::Total, &link)
+    };
+    let value = match random.below(4) {
+        0 => slack(draft, [y, z, z2]),
+        1 => random.signed(-strength.slice, strength.slice),
+        _ => -slack(draft, [y, z2, z]),
+    };
+    draft.set_multiplier(28, &[y, z, z2], value.clamp(-LARGEST, LARGEST));
+    for link in [[y, z, z2], [y, z2, z]] {
+        let most = slack(draft, link);
+        let value = match random.below(4) {
+            0 => most - random.magnitude(strength.slice),
+            1 if most > 0 => random.magnitude(most),
+            _ => most,
+        };
+        draft.set_multiplier(26, &link, value.clamp(-LARGEST, LARGEST));
+    }
+}
+
+/// Family 26 within one zone, where the limit of 27 is 0, so that neither adds to the gap.
+fn price_total_within_zone(
+    random: &mut Random,
+    draft: &mut Draft,
+    ledger: &Ledger,
+    [y, z]: [usize; 2],
+) {
+    let most = ledger.slack(&draft.case.multipliers, Column::Total, &[y, z, z]);
+    let value = most - idle(random) / draft.shape.years as i128;
+    draft.set_multiplier(26, &[y, z, z], value.max(-LARGEST));
+}
+
+/// Family 27: what the dearest of a pair's builds is underpriced by, at times more.
+fn price_new_lines(
+    random: &mut Random,
+    draft: &mut Draft,
+    strength: &Strength,
+    [z, z2]: [usize; 2],
+) {
+    let years = 0..draft.shape.years;
+    let least = years.map(|y| draft.multiplier(26, &[y, z, z2])).min();
+    let needed = (-least.expect("at least one year")).max(0);
+    let value = match z == z2 {
+        true => needed.max(idle(random)),
+        false => needed + random.slack(strength.slice),
+    };
+    draft.set_multiplier(27, &[z, z2], value.min(LARGEST));
 }

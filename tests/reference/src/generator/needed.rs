@@ -33,11 +33,27 @@ fn largest_share(draft: &Draft, g: usize, amount: impl Fn(usize, usize) -> i128)
     largest
 }
 
-/// (15): the least TL[y,z,z2,q].
+/// (15): the least TL[y,z,z2,q] beside the lines that are built.
 pub fn transfer_limit(draft: &Draft, y: usize, z: usize, z2: usize, q: usize) -> i128 {
     let season = draft.shape.slices_of_season(q);
     let most = season.map(|s| draft.entry(Column::Trans, &[y, z, z2, s]));
-    quotient_up(most.max().unwrap_or(0), draft.scale())
+    let rest = most.max().unwrap_or(0) - draft.line_capacity(y, z, z2);
+    quotient_up(rest, draft.scale()).max(0)
+}
+
+/// (15): the least MW per line[z,z2] beside TL.
+pub fn line_mw(draft: &Draft, z: usize, z2: usize) -> i128 {
+    let mut largest = 0;
+    for y in years(draft) {
+        let total = draft.entry(Column::Total, &[y, z, z2]);
+        for s in slices(draft).filter(|_| total > 0) {
+            let q = draft.shape.season_of(s);
+            let limit = draft.scale() * draft.data(Table::Tl, &[y, z, z2, q]);
+            let rest = draft.entry(Column::Trans, &[y, z, z2, s]) - limit;
+            largest = largest.max(quotient_up(rest, total));
+        }
+    }
+    largest
 }
 
 /// (19) without SRes, in Nths of a kW.
@@ -53,7 +69,8 @@ pub fn spinning_supply(draft: &Draft, y: usize, z: usize, s: usize) -> i128 {
     }
     for z2 in draft.zones_beside(z) {
         let limit = draft.scale() * draft.data(Table::Tl, &[y, z2, z, q]);
-        supply += 1000 * (limit - draft.entry(Column::Trans, &[y, z2, z, s]));
+        let free = limit + draft.line_capacity(y, z2, z);
+        supply += 1000 * (free - draft.entry(Column::Trans, &[y, z2, z, s]));
     }
     supply
 }
@@ -187,6 +204,18 @@ pub fn new_capacity(draft: &Draft, g: usize) -> i128 {
         .map(|y| draft.entry(Column::Build, &[y, g]))
         .sum();
     quotient_up(built, draft.scale())
+}
+
+/// Family 27: the least line limit[z,z2].
+pub fn line_limit(draft: &Draft, z: usize, z2: usize) -> i128 {
+    quotient_up(lines_built(draft, z, z2), draft.scale())
+}
+
+/// The builds of a pair in all years, in Nths of a line.
+pub fn lines_built(draft: &Draft, z: usize, z2: usize) -> i128 {
+    years(draft)
+        .map(|y| draft.entry(Column::Built, &[y, z, z2]))
+        .sum()
 }
 
 /// (58): the least BuildLimit[y].

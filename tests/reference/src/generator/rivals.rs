@@ -2,7 +2,7 @@
 //! equations, at other scales, with entries that may be wide.
 //!
 //! One kind owes nothing to the sound plan. The others are made from it by shares
-//! that no limit of families 5 to 20 forbids:
+//! that no limit of families 5 to 20, 27 and 28 forbids:
 //!
 //! - a candidate may be built to a share of the plan, with its output and
 //!   reserve; an existing plant may keep a share of its capacity after the
@@ -11,6 +11,8 @@
 //!   minimum load asks, its reserve and every link's transfers may shrink;
 //! - a battery may charge, hold and give a share of what the plan does, or charge
 //!   and give anew as it likes;
+//! - a pair of zones may have a share of the plan's lines, with their flows, or lines and
+//!   flows anew, in any fractions of a line;
 //! - unmet, surplus, spinshort and firmshort then take up the difference.
 
 use super::draft::{Case, Draft};
@@ -34,12 +36,13 @@ const PARTS: i128 = 16;
 
 /// A rival of a case that check accepts.
 pub fn rival(random: &mut Random, case: &Case) -> Rival {
-    match random.below(10) {
+    match random.below(12) {
         0 => rescaled(random, case),
         1 => with_waste(random, case),
         2 | 3 => swapped(random, case),
         4 => idle(random, case),
         5 | 6 => recharged(random, case),
+        7 | 8 => rebuilt(random, case),
         _ => reshaped(random, case),
     }
 }
@@ -184,7 +187,7 @@ fn reshaped(random: &mut Random, case: &Case) -> Rival {
     build.make_up(random, "reshaped", true)
 }
 
-/// A plan that owes nothing to the case's own, at any scale: no builds and no
+/// A plan that owes nothing to the case's own, at any scale: no builds, no lines and no
 /// transfers, existing plants retire in the second year and give the least that
 /// their minimum load asks. Availability, profiles, fuel and emissions may forbid
 /// even that.
@@ -209,14 +212,77 @@ fn idle(random: &mut Random, case: &Case) -> Rival {
     build.make_up(random, "idle", false)
 }
 
-/// The plan in finer units with every battery charging and giving anew. Its
-/// availability, fuel and emissions may forbid it.
-fn recharged(random: &mut Random, case: &Case) -> Rival {
+/// The plan itself in finer units, to be changed.
+fn copied(random: &mut Random, case: &Case) -> Build {
     let factor = 1 + random.magnitude(1 << 20);
     let mut build = Build::new(case, i128::from(case.scale) * factor);
     for (entry, &planned) in build.entries.iter_mut().zip(&case.plan) {
         *entry = i128::from(planned) * factor;
     }
+    build
+}
+
+/// The plan in finer units with the lines of every pair, and all flows, anew.
+fn rebuilt(random: &mut Random, case: &Case) -> Rival {
+    let mut build = copied(random, case);
+    for pair in build.source.pairs() {
+        build_lines(random, &mut build, pair);
+    }
+    for y in 0..build.source.shape.years {
+        for [z, z2] in build.source.pairs() {
+            redirect_flows(random, &mut build, [y, z, z2]);
+            redirect_flows(random, &mut build, [y, z2, z]);
+        }
+    }
+    build.make_up(random, "lines rebuilt", true)
+}
+
+/// A pair's lines, year by year, in Mths of a line, as many in both directions: up to
+/// the lower of the two limits, or none.
+fn build_lines(random: &mut Random, build: &mut Build, [z, z2]: [usize; 2]) {
+    let limit = |z, z2| build.source.data(Table::LineLimit, &[z, z2]);
+    let mut left = match random.below(4) {
+        0 => 0,
+        _ => build.scale * limit(z, z2).min(limit(z2, z)),
+    };
+    let mut total = 0;
+    for y in 0..build.source.shape.years {
+        let built = match random.below(3) {
+            0 => left,
+            1 => 0,
+            _ => random.signed(0, left),
+        };
+        left -= built;
+        total += built;
+        for link in [[y, z, z2], [y, z2, z]] {
+            build.set(Column::Built, &link, built);
+            build.set(Column::Total, &link, total);
+        }
+    }
+}
+
+/// (15): a link's flows of a year as the plan has them where they fit, or anything up to
+/// what the link and its lines carry.
+fn redirect_flows(random: &mut Random, build: &mut Build, [y, z, z2]: [usize; 3]) {
+    let source = &build.source;
+    let mw = source.data(Table::LineMw, &[z, z2]);
+    let lines = mw * build.entry(Column::Total, &[y, z, z2]);
+    for s in 0..build.source.shape.slices() {
+        let q = build.source.shape.season_of(s);
+        let carried = build.scale * build.source.data(Table::Tl, &[y, z, z2, q]) + lines;
+        let flow = match random.below(4) {
+            0 => carried,
+            1 => random.signed(0, carried),
+            _ => build.planned(Column::Trans, &[y, z, z2, s]).min(carried),
+        };
+        build.set(Column::Trans, &[y, z, z2, s], flow);
+    }
+}
+
+/// The plan in finer units with every battery charging and giving anew. Its
+/// availability, fuel and emissions may forbid it.
+fn recharged(random: &mut Random, case: &Case) -> Rival {
+    let mut build = copied(random, case);
     let shape = build.source.shape;
     for y in 0..shape.years {
         for g in 0..shape.plants {
@@ -316,18 +382,28 @@ fn least_output(build: &Build, y: usize, g: usize, s: usize, cap: i128) -> i128 
     }
 }
 
+/// A pair keeps a share of its lines, alike in all years and in both directions, and of its
+/// flows no larger a share.
 fn reshape_transfers(random: &mut Random, build: &mut Build) {
-    let shape = build.source.shape;
-    for y in 0..shape.years {
-        for z in 0..shape.zones {
-            for z2 in 0..shape.zones {
-                let part = share(random);
-                for s in 0..shape.slices() {
-                    let flow = build.planned(Column::Trans, &[y, z, z2, s]);
-                    build.set(Column::Trans, &[y, z, z2, s], flow / PARTS * part);
+    for [z, z2] in build.source.pairs() {
+        let kept = share(random);
+        for y in 0..build.source.shape.years {
+            for link in [[y, z, z2], [y, z2, z]] {
+                let part = share(random).min(kept);
+                for column in [Column::Built, Column::Total] {
+                    let planned = build.planned(column, &link);
+                    build.set(column, &link, planned / PARTS * kept);
                 }
+                reshape_flows(build, link, part);
             }
         }
+    }
+}
+
+fn reshape_flows(build: &mut Build, [y, z, z2]: [usize; 3], part: i128) {
+    for s in 0..build.source.shape.slices() {
+        let flow = build.planned(Column::Trans, &[y, z, z2, s]);
+        build.set(Column::Trans, &[y, z, z2, s], flow / PARTS * part);
     }
 }
 
@@ -372,7 +448,9 @@ fn cover_spinning_reserve(random: &mut Random, build: &mut Build, y: usize, z: u
     }
     for z2 in source.zones_beside(z) {
         let limit = build.scale * source.data(Table::Tl, &[y, z2, z, q]);
-        short -= 1000 * (limit - build.entry(Column::Trans, &[y, z2, z, s]));
+        let mw = source.data(Table::LineMw, &[z2, z]);
+        let lines = mw * build.entry(Column::Total, &[y, z2, z]);
+        short -= 1000 * (limit + lines - build.entry(Column::Trans, &[y, z2, z, s]));
     }
     let spinshort = short.max(0) + extra(random);
     build.set(Column::SpinShort, &[y, z, s], spinshort);

@@ -2,13 +2,14 @@
 //! own simplex (`optimum`) gives plan and multipliers, and the gap is 0.
 //!
 //! The scale is the least at which the plan is whole. The multipliers are made whole by
-//! a smaller money unit: every price is multiplied by their common denominator.
+//! a smaller money unit: every price is multiplied by their common denominator. `linked`
+//! solves its cases in the same way.
 
 use super::draft::Draft;
 use super::random::Random;
 use crate::calls::{certify, LARGEST_SCALE};
 use crate::columns::Column;
-use crate::data::Table;
+use crate::data::{Table, TABLES};
 use crate::fraction::{common_denominator, Fraction};
 use crate::model::Model;
 use crate::optimum::{optimum, Optimum};
@@ -21,8 +22,16 @@ const WIND: usize = 2;
 const BATTERY: usize = 3;
 
 /// The prices that are above 0; a smaller money unit multiplies them.
-const PRICES_BY_PLANT: [Table; 3] = [Table::Annuity, Table::FixedOm, Table::GenCost];
-const SINGLE_PRICES: [Table; 3] = [Table::Voll, Table::SurplusPenalty, Table::ResVoll];
+const PRICES: [Table; 8] = [
+    Table::Annuity,
+    Table::FixedOm,
+    Table::GenCost,
+    Table::Voll,
+    Table::SurplusPenalty,
+    Table::ResVoll,
+    Table::SresVoll,
+    Table::LineAnnuity,
+];
 
 /// A case of least cost whose battery charges.
 pub fn draft(random: &mut Random) -> Draft {
@@ -40,19 +49,26 @@ fn attempt(random: &mut Random) -> Option<Draft> {
     draw_system(random, &mut draft);
     draw_plants(random, &mut draft);
     draw_battery(random, &mut draft);
+    solve(&mut draft)?;
+    draft.draw_board(random);
+    charges(&draft).then_some(draft)
+}
+
+/// Scale, plan, multipliers and money unit of a draft that has its data; none where the
+/// optimum does not fit them.
+pub(super) fn solve(draft: &mut Draft) -> Option<()> {
     let found = optimum(&Model::read(&draft.case.data).expect("sound data"))?;
     let scale = common_denominator(&found.entries)?;
     if scale > i128::from(LARGEST_SCALE) {
         return None;
     }
     draft.case.scale = scale as u32;
-    set_plan(&mut draft, &found)?;
-    set_multipliers(&mut draft, &found)?;
-    draft.draw_board(random);
+    set_plan(draft, &found)?;
+    set_multipliers(draft, &found)?;
     // In a money unit that is too small a multiplier passes its range.
     let case = &draft.case;
     certify(&case.data, case.scale, &case.plan, &case.multipliers).ok()?;
-    charges(&draft).then_some(draft)
+    Some(())
 }
 
 fn charges(draft: &Draft) -> bool {
@@ -145,12 +161,11 @@ fn set_multipliers(draft: &mut Draft, found: &Optimum) -> Option<()> {
     for (multiplier, &worth) in draft.case.multipliers.iter_mut().zip(&found.multipliers) {
         *multiplier = i64::try_from(whole(worth, unit)?).ok()?;
     }
-    for table in SINGLE_PRICES {
-        raise_price(draft, table, &[], unit)?;
-    }
-    for table in PRICES_BY_PLANT {
-        for g in 0..draft.shape.plants {
-            raise_price(draft, table, &[0, g], unit)?;
+    for table in PRICES {
+        let axes = TABLES[table as usize].axes;
+        for place in 0..draft.shape.size(axes) {
+            let indices = draft.shape.indices(axes, place);
+            raise_price(draft, table, &indices, unit)?;
         }
     }
     Some(())

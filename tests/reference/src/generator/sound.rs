@@ -1,7 +1,7 @@
 //! Data and a plan that check accepts.
 //!
-//! The plan comes first: capacity, dispatch, storage, reserve and transfers are
-//! drawn freely, and the limits in the data are then set to what the plan uses,
+//! The plan comes first: capacity, dispatch, storage, reserve, lines and transfers
+//! are drawn freely, and the limits in the data are then set to what the plan uses,
 //! often exactly. Demand follows from the supply, and unmet, surplus and the two
 //! short columns take up what is left.
 
@@ -25,6 +25,7 @@ pub fn draft(random: &mut Random, shape: Shape, scale: u32) -> Draft {
     plan_capacity(random, &mut draft, size);
     plan_dispatch(random, &mut draft);
     set_dispatch_limits(random, &mut draft);
+    plan_lines(random, &mut draft, size);
     plan_transfers(random, &mut draft, size);
     balance_demand(random, &mut draft, size);
     plan_spinning_reserve(random, &mut draft);
@@ -326,6 +327,42 @@ fn set_dispatch_limits(random: &mut Random, draft: &mut Draft) {
     }
 }
 
+/// The most lines of a pair of zones; together they carry about what a plant gives.
+const LARGEST_LINES: i128 = 4;
+
+/// Built, total, MW per line and line limit. One draft in three has no lines at all.
+fn plan_lines(random: &mut Random, draft: &mut Draft, size: i128) {
+    if random.chance(1, 3) {
+        return;
+    }
+    for pair in draft.pairs() {
+        plan_builds_of_lines(random, draft, pair);
+        let [z, z2] = pair;
+        for (from, to) in [(z, z2), (z2, z)] {
+            let mw = random.signed(0, (size / LARGEST_LINES).max(1));
+            draft.set_data(Table::LineMw, &[from, to], mw);
+            let limit = needed::line_limit(draft, from, to) + random.slack(100);
+            draft.set_data(Table::LineLimit, &[from, to], limit);
+        }
+    }
+}
+
+/// A pair's lines, year by year, in Nths of a line: as many in both directions.
+fn plan_builds_of_lines(random: &mut Random, draft: &mut Draft, [z, z2]: [usize; 2]) {
+    let largest = (LARGEST_LINES * draft.scale() / draft.shape.years as i128).max(1);
+    if random.chance(1, 3) {
+        return;
+    }
+    for y in 0..draft.shape.years {
+        if random.chance(2, 3) {
+            let built = part_or_whole(random, largest);
+            for link in [[y, z, z2], [y, z2, z]] {
+                draft.build_lines(link, built).expect("a small number");
+            }
+        }
+    }
+}
+
 /// Trans, TL and Loss. Within a zone trans and TL are 0, Loss is not used.
 fn plan_transfers(random: &mut Random, draft: &mut Draft, size: i128) {
     for y in 0..draft.shape.years {
@@ -538,6 +575,7 @@ const SINGLE_PRICES: [(Table, i128); 4] = [
     (Table::SresVoll, 500),
 ];
 const LARGEST_RESERVE_PRICE: i128 = 20_000;
+const LARGEST_LINE_PRICE: i128 = 200_000_000;
 const LARGEST_TAX: i128 = 100;
 
 fn draw_prices(random: &mut Random, draft: &mut Draft) {
@@ -559,6 +597,12 @@ fn draw_prices(random: &mut Random, draft: &mut Draft) {
     }
     for y in 0..draft.shape.years {
         draft.set_data(Table::Tax, &[y], price(random, LARGEST_TAX));
+    }
+    // Both directions have an annuity, and only that of the lower zone is paid.
+    for [z, z2] in draft.pairs() {
+        for link in [[z, z2], [z2, z]] {
+            draft.set_data(Table::LineAnnuity, &link, price(random, LARGEST_LINE_PRICE));
+        }
     }
 }
 
@@ -594,6 +638,10 @@ fn halve_prices(draft: &mut Draft) {
     }
     for y in 0..draft.shape.years {
         halve(draft, Table::Tax, &[y]);
+    }
+    for [z, z2] in draft.pairs() {
+        halve(draft, Table::LineAnnuity, &[z, z2]);
+        halve(draft, Table::LineAnnuity, &[z2, z]);
     }
 }
 

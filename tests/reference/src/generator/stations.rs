@@ -6,8 +6,8 @@ use crate::data::{DataLayout, Table, TABLES};
 use crate::refusal::Refusal;
 use crate::shape::Shape;
 
-pub const COLUMNS: usize = 12;
-pub const ROWS: usize = 25;
+pub const COLUMNS: usize = 14;
+pub const ROWS: usize = 28;
 
 const CAP: usize = 0;
 const GEN: usize = 3;

@@ -74,6 +74,12 @@ level-limit-constant-requires c κs =
     let p = c .before .before .pre in
     let m = member-at _ 24 (c .match .keys12) (p .1 .1) in (p .0, m .2)
 
+new-lines-constant-requires : tie.Need-new-lines-constant-requires
+unfolding rowBoxes
+new-lines-constant-requires c κs =
+    let p = c .before .before .pre in
+    let m = member-at _ 26 (c .match .keys13) (p .1 .1) in (p .0, (m .2, m .3))
+
 returns : tie.Need-returns
 unfolding constantOf
 returns c = rw (c .before .match .keys1) (c .balance-constant .ensures)
@@ -123,8 +129,12 @@ unfolding constantOf
 returns-12 c = rw (c .before .match .keys12) (c .level-limit-constant .ensures)
 
 returns-13 : tie.Need-returns-13
+unfolding constantOf
+returns-13 c = rw (c .before .match .keys13) (c .new-lines-constant .ensures)
+
+returns-14 : tie.Need-returns-14
 unfolding rowBoxes
-returns-13 c = let l = c .before .before .pre .1 .1 .0 in without _ _ _ _ _ _ l (without-arm _ l (c .match .rest))
+returns-14 c = let l = c .before .before .pre .1 .1 .0 in without _ _ _ _ _ _ l (without-arm _ l (c .match .rest))
 
 pub constant-at-spec : {M : Type 1} → statement M
 constant-at-spec =
@@ -142,6 +152,7 @@ constant-at-spec =
     zone-emission-constant-requires
     system-emission-constant-requires
     level-limit-constant-requires
+    new-lines-constant-requires
     returns
     returns-2
     returns-3
@@ -154,4 +165,5 @@ constant-at-spec =
     returns-10
     returns-11
     returns-12
-    returns-13)
+    returns-13
+    returns-14)

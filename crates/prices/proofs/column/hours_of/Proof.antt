@@ -40,10 +40,18 @@ unfolding hoursOf
 returns-7 c = rw (c .match .keys7)
 
 returns-8 : tie.Need-returns-8
-returns-8 c =
+unfolding hoursOf
+returns-8 c = rw (c .match .keys8)
+
+returns-9 : tie.Need-returns-9
+unfolding hoursOf
+returns-9 c = rw (c .match .keys9)
+
+returns-10 : tie.Need-returns-10
+returns-10 c =
     c .by-slice .ensures .0 ∙ sym (by-hour (rest-hourly _ (c .before .before .before .pre .1 .0) (c .before .match .rest)) .hours _ _)
 
 pub hours-of-spec : {M : Type 1} → statement M
 hours-of-spec =
     tie.close
-    (tie.spec by-slice-requires returns returns-2 returns-3 returns-4 returns-5 returns-6 returns-7 returns-8)
+    (tie.spec by-slice-requires returns returns-2 returns-3 returns-4 returns-5 returns-6 returns-7 returns-8 returns-9 returns-10)

@@ -11,7 +11,7 @@ year-weight-requires : tie.Need-year-weight-requires
 year-weight-requires c κs = search needs
 
 yearly-price-requires : tie.Need-yearly-price-requires
-yearly-price-requires c κs = let l = rw (c .match .keys1) at (c .before .before .before .pre .1 .1 .1) in search needs
+yearly-price-requires c κs = let l = rw (c .match .keys1) at (c .before .before .before .pre .1 .1 .1 .0) in search needs
 
 product-requires : tie.Need-product-requires
 product-requires c κs = search needs
@@ -37,9 +37,18 @@ zero-requires-4 c κs = search needs
 zero-requires-5 : tie.Need-zero-requires-5
 zero-requires-5 c κs = search needs
 
+zero-requires-6 : tie.Need-zero-requires-6
+zero-requires-6 c κs = search needs
+
+line-price-requires : tie.Need-line-price-requires
+line-price-requires c κs = let p = c .before .before .before .pre in (p .0, rw (c .match .keys9) at (p .1 .1 .1))
+
+product-requires-3 : tie.Need-product-requires-3
+product-requires-3 c κs = search needs
+
 hour-price-requires : tie.Need-hour-price-requires
 hour-price-requires c κs =
-    let p = c .before .before .before .pre in (p .0, (rest-hourly _ (p .1 .0) (c .match .rest), p .1 .1))
+    let p = c .before .before .before .pre in (p .0, (rest-hourly _ (p .1 .0) (c .match .rest), (p .1 .1 .0, p .1 .1 .1 .0)))
 
 scale-requires : tie.Need-scale-requires
 scale-requires c κs = search needs
@@ -73,9 +82,17 @@ unfolding unitPrice
 returns-7 c = c .zero5 .ensures ∙ rw (c .before .match .keys7)
 
 returns-8 : tie.Need-returns-8
-returns-8 c =
+unfolding unitPrice
+returns-8 c = c .zero6 .ensures ∙ rw (c .before .match .keys8)
+
+returns-9 : tie.Need-returns-9
+unfolding unitPrice
+returns-9 c = c .product3 .ensures ∙ rw (c .before .before .match .keys9, c .before .before .before .year-weight .ensures, c .before .line-price .ensures)
+
+returns-10 : tie.Need-returns-10
+returns-10 c =
     let hourly = rest-hourly _ (c .before .before .before .before .before .pre .1 .0) (c .before .before .match .rest) in
-    c .scale .ensures ∙ rw (c .before .hour-price .ensures, c .before .before .before .year-weight .ensures) (times-cap _ _ ∙ ap cap (sym (by-hour hourly .unit _ _ _)))
+    c .scale .ensures ∙ rw (c .before .hour-price .ensures, c .before .before .before .year-weight .ensures) (times-cap _ _ ∙ ap cap (sym (by-hour hourly .unit _ _ _ _)))
 
 pub unit-price-spec : {M : Type 1} → statement M
 unit-price-spec =
@@ -91,6 +108,9 @@ unit-price-spec =
     product-requires-2
     zero-requires-4
     zero-requires-5
+    zero-requires-6
+    line-price-requires
+    product-requires-3
     hour-price-requires
     scale-requires
     returns
@@ -100,4 +120,6 @@ unit-price-spec =
     returns-5
     returns-6
     returns-7
-    returns-8)
+    returns-8
+    returns-9
+    returns-10)

@@ -1,4 +1,5 @@
 use Prim.Native.Nat.{_-_}
+use Rattle.model.specs.Data.{read}
 use Rattle.model.specs.Families.{familyOf, familyCount}
 use Rattle.tables.proofs.Laws.{last-arm}
 use Rattle.constants.proofs.Laws.{inside-at}
@@ -106,7 +107,19 @@ charge-ramp-requires-2 c κs = let m = inside-at _ (c .match .keys24) (c .before
 
 level-limit-requires : tie.Need-level-limit-requires
 unfolding familyOf
-level-limit-requires c κs =
+level-limit-requires c κs = let m = inside-at _ (c .match .keys25) (c .before .before .before .before .before .before .before .pre .1 .1) in (search needs, search needs)
+
+line-balance-requires : tie.Need-line-balance-requires
+unfolding familyOf
+line-balance-requires c κs = let m = inside-at _ (c .match .keys26) (c .before .before .before .before .before .before .before .pre .1 .1) in (search needs, search needs)
+
+new-lines-requires : tie.Need-new-lines-requires
+unfolding familyOf
+new-lines-requires c κs = let m = inside-at _ (c .match .keys27) (c .before .before .before .before .before .before .before .pre .1 .1) in (search needs, search needs)
+
+lines-both-ways-requires : tie.Need-lines-both-ways-requires
+unfolding familyOf
+lines-both-ways-requires c κs =
     let p = c .before .before .before .before .before .before .before .pre in
     let m = inside-at _ (last-arm (familyCount - 1) (p .1 .0) (c .match .rest)) (p .1 .1) in (search needs, search needs)
 
@@ -214,9 +227,21 @@ returns-24 c = rw (c .before .match .keys24) (plain-under _ _ _ _ (c .charge-ram
 
 returns-25 : tie.Need-returns-25
 unfolding sidesOf
-returns-25 c =
-    let p = c .before .before .before .before .before .before .before .before .pre in
-    rw (last-arm (familyCount - 1) (p .1 .0) (c .before .match .rest)) (c .level-limit .ensures _ (p .0 .levels))
+returns-25 c = rw (c .before .match .keys25) (c .level-limit .ensures _ (c .before .before .before .before .before .before .before .before .pre .0 .levels))
+
+returns-26 : tie.Need-returns-26
+unfolding sidesOf
+returns-26 c = rw (c .before .match .keys26) (c .line-balance .ensures (read (c .before .before .before .before .before .before .before .before .args .«data» .now)) _)
+
+returns-27 : tie.Need-returns-27
+unfolding sidesOf
+returns-27 c = rw (c .before .match .keys27) (c .new-lines .ensures)
+
+returns-28 : tie.Need-returns-28
+unfolding sidesOf
+returns-28 c =
+    let start = c .before .before .before .before .before .before .before .before in
+    rw (last-arm (familyCount - 1) (start .pre .1 .0) (c .before .match .rest)) (c .lines-both-ways .ensures (read (start .args .«data» .now)) _)
 
 pub row-sides-spec : {M : Type 1} → statement M
 row-sides-spec =
@@ -247,6 +272,9 @@ row-sides-spec =
     charge-ramp-requires
     charge-ramp-requires-2
     level-limit-requires
+    line-balance-requires
+    new-lines-requires
+    lines-both-ways-requires
     returns
     returns-2
     returns-3
@@ -271,4 +299,7 @@ row-sides-spec =
     returns-22
     returns-23
     returns-24
-    returns-25)
+    returns-25
+    returns-26
+    returns-27
+    returns-28)

@@ -16,8 +16,8 @@ returns : tie.Need-returns
 unfolding sidesOf
 returns c = rw (flag-on 0 (c .before .before .by-plant .ensures .0) (c .before .if1 .taken)) (plain _ 0 0 (c .empty .ensures))
 
-build-sum-requires : tie.Need-build-sum-requires
-build-sum-requires c κs = search needs
+over-years-requires : tie.Need-over-years-requires
+over-years-requires c κs = search needs
 
 new-capacity-constant-requires : tie.Need-new-capacity-constant-requires
 new-capacity-constant-requires c κs = search needs
@@ -31,7 +31,7 @@ returns-2 c =
     let c4 = c .before .before .before .before in
     let f = flag-off 0 (c4 .by-plant .ensures .0) (c .before .before .before .if1 .left) in
     rw (c4 .before .before .before .pre .0 .0 .counts, f)
-    (limit _ _ (c .at-most .ensures) (rw f at (c .before .new-capacity-constant .ensures)) (c .before .before .build-sum .ensures))
+    (limit _ _ (c .at-most .ensures) (rw f at (c .before .new-capacity-constant .ensures)) (c .before .before .over-years .ensures))
 
 pub new-capacity-spec : {M : Type 1} → statement M
 new-capacity-spec =
@@ -40,7 +40,7 @@ new-capacity-spec =
     by-plant-requires
     empty-requires
     returns
-    build-sum-requires
+    over-years-requires
     new-capacity-constant-requires
     at-most-requires
     returns-2)

@@ -17,8 +17,8 @@ planned-by-year-plant-requires c κs = search needs
 product-requires : tie.Need-product-requires
 product-requires c κs = search needs
 
-earlier-cap-requires : tie.Need-earlier-cap-requires
-earlier-cap-requires c κs = search needs
+earlier-requires : tie.Need-earlier-requires
+earlier-requires c κs = search needs
 
 by-plant-requires : tie.Need-by-plant-requires
 by-plant-requires c κs = search needs
@@ -36,7 +36,7 @@ returns c =
     rw (flag-off 0 (c .before .before .before .by-plant .ensures .0) (c .before .before .if1 .taken))
     (plain _ _ _
     (two-sums _ _ (plus-nothing _ (product-is (c4 .before .product .ensures) refl (c4 .before .before .planned-by-year-plant .ensures .0)))
-    (plus-is _ (c .add-product .ensures) (c4 .earlier-cap .ensures) refl (c .before .planned-by-year-plant2 .ensures .0))))
+    (plus-is _ (c .add-product .ensures) (c4 .earlier .ensures) refl (c .before .planned-by-year-plant2 .ensures .0))))
 
 stock-constant-requires : tie.Need-stock-constant-requires
 stock-constant-requires c κs = search needs
@@ -55,7 +55,7 @@ returns-2 c =
     let l : ltb 0 y ≡ false = le-ltb 0 y (omega (arith, c .before .before .if2 .taken)) in
     rw (f, e, l)
     (constant _ _ _ (c .with-constant .ensures) (rw (f, e) at (c .before .stock-constant .ensures))
-    (plus-nothing _ (product-is (c4 .before .before .product .ensures) refl (c4 .before .before .before .planned-by-year-plant .ensures .0))) (c4 .before .earlier-cap .ensures ∙ rw l))
+    (plus-nothing _ (product-is (c4 .before .before .product .ensures) refl (c4 .before .before .before .planned-by-year-plant .ensures .0))) (c4 .before .earlier .ensures ∙ rw l))
 
 planned-by-year-plant-requires-3 : tie.Need-planned-by-year-plant-requires-3
 planned-by-year-plant-requires-3 c κs = search needs
@@ -75,7 +75,7 @@ returns-3 c =
     (plain _ _ _
     (two-sums _ _
     (plus-is _ (c .add-product2 .ensures) (product-is (c4 .before .before .product .ensures) refl (c4 .before .before .before .planned-by-year-plant .ensures .0)) refl (c .before .planned-by-year-plant3 .ensures .0))
-    (plus-nothing _ (c4 .before .earlier-cap .ensures ∙ rw l))))
+    (plus-nothing _ (c4 .before .earlier .ensures ∙ rw l))))
 
 pub stock-spec : {M : Type 1} → statement M
 stock-spec =
@@ -83,7 +83,7 @@ stock-spec =
     (tie.spec
     planned-by-year-plant-requires
     product-requires
-    earlier-cap-requires
+    earlier-requires
     by-plant-requires
     planned-by-year-plant-requires-2
     add-product-requires

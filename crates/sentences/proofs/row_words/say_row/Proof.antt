@@ -17,20 +17,8 @@ slice-aggregate-say-with c = search needs
 say-with-requires : tie.Need-say-with-requires
 say-with-requires c κs = search needs
 
-slice-aggregate-say-with-2 : tie.Need-slice-aggregate-say-with-2
-slice-aggregate-say-with-2 c = search needs
-
-cast-say-with : tie.Need-cast-say-with
-cast-say-with c = search needs
-
-say-with-requires-2 : tie.Need-say-with-requires-2
-say-with-requires-2 c κs = search needs
-
-slice-aggregate-say : tie.Need-slice-aggregate-say
-slice-aggregate-say c = search needs
-
-say-requires : tie.Need-say-requires
-say-requires c κs = search needs
+say-equation-requires : tie.Need-say-equation-requires
+say-equation-requires c κs = search needs
 
 slice-aggregate-say-name : tie.Need-slice-aggregate-say-name
 slice-aggregate-say-name c = search needs
@@ -40,20 +28,19 @@ say-name-requires c κs = search needs
 
 say-place-requires : tie.Need-say-place-requires
 say-place-requires c κs =
-    let a = c .before .before .before .before .before .before .before .before .before .before .before .before .before .before .before in
-    let kept = c .before .say-name .ensures .kept ∙ c .before .before .before .before .say .ensures .kept
-        ∙ c .before .before .before .before .before .before .before .say-with2 .ensures .kept ∙ c .before .before .before .before .before .before .before .before .before .before .before .say-with .ensures .kept in
+    let a = c .before .before .before .before .before .before .before .before .before .before in
+    let kept = c .before .say-name .ensures .kept ∙ c .before .before .before .before .say-equation .ensures .kept
+        ∙ c .before .before .before .before .before .before .say-with .ensures .kept in
     ((kept ∙ a .pre .0 .0, c .before .say-name .ensures .within), (a .pre .1 .0, low-inside (a .pre .1 .0) (familyOf (a .args .p .kind) .set) (a .args .p) (row-inside (a .args .c) (a .pre .1 .1) .1)))
 
 returns : tie.Need-returns
 unfolding rowWords
 returns c =
-    rw (← c .before .before .before .before .before .before .before .before .before .before .before .before .before .before .before .family-at .ensures)
-    (said-joined (c .before .before .before .before .before .before .before .before .before .before .before .before .say-with .ensures)
-    (said-joined (c .before .before .before .before .before .before .before .before .say-with2 .ensures)
-    (said-joined (c .before .before .before .before .before .say .ensures)
+    rw (← c .before .before .before .before .before .before .before .before .before .before .family-at .ensures)
+    (said-joined (c .before .before .before .before .before .before .before .say-with .ensures)
+    (said-joined (c .before .before .before .before .before .say-equation .ensures)
     (said-joined (c .before .before .say-name .ensures)
-    (c .say-place .ensures)))))
+    (c .say-place .ensures))))
 
 pub say-row-spec : {M : Type 1} → statement M
 say-row-spec =
@@ -62,11 +49,7 @@ say-row-spec =
     family-at-requires
     slice-aggregate-say-with
     say-with-requires
-    slice-aggregate-say-with-2
-    cast-say-with
-    say-with-requires-2
-    slice-aggregate-say
-    say-requires
+    say-equation-requires
     slice-aggregate-say-name
     say-name-requires
     say-place-requires

@@ -65,7 +65,10 @@ returns-18 : tie.Need-returns-18
 returns-18 c = boxed (c .before .before .pre) 17 (c .match .keys18) refl
 
 returns-19 : tie.Need-returns-19
-returns-19 c = boxed (c .before .before .pre) (c .before .before .args .set) refl (sym (List·getD-eq-default (sets (c .before .before .args .c)) (box 0 0 0 0) (none-of 18 (c .match .rest))))
+returns-19 c = boxed (c .before .before .pre) 18 (c .match .keys19) refl
+
+returns-20 : tie.Need-returns-20
+returns-20 c = boxed (c .before .before .pre) (c .before .before .args .set) refl (sym (List·getD-eq-default (sets (c .before .before .args .c)) (box 0 0 0 0) (none-of 19 (c .match .rest))))
 
 pub box-of-spec : {M : Type 1} → statement M
 box-of-spec =
@@ -90,4 +93,5 @@ box-of-spec =
     returns-16
     returns-17
     returns-18
-    returns-19)
+    returns-19
+    returns-20)

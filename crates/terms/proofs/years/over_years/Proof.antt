@@ -1,18 +1,20 @@
 use mathlib.Core.Path.{_∙_}
 use Prim.Native.Nat.{_*_, _-_}
+use native.Mathlib.Omega.{arith}
 use Rattle.capped.proofs.Laws.{plus-cap}
-use Rattle.model.specs.Columns.{build}
+use Rattle.sums.specs.Index.{index}
 use Rattle.tables.specs.Layout.{planEntry}
+use Rattle.tables.proofs.Members.{of-earlier-year}
 use Rattle.terms.proofs.Laws.{Summed, summed-none, summed-more, summed-all}
 use borrow.Author.Needs.{needs}
-use Rattle.terms.proofs.plants.build_sum.Statement.{statement}
-use Rattle.terms.proofs.plants.build_sum.Tie as tie
+use Rattle.terms.proofs.years.over_years.Statement.{statement}
+use Rattle.terms.proofs.years.over_years.Tie as tie
 
 abbrev Inv-loop : tie.InvT-loop
-Inv-loop plan columns-at c g total₀ y₀ y-end total y = Summed (c .years) (λ y. 1 * planEntry c plan (build y g)) y total
+Inv-loop plan columns-at c t k i j total₀ y₀ y-end total y = Summed (c .years) (λ y. 1 * planEntry c plan (index t y i j 0)) y total
 
 abbrev μ-loop : tie.MeasureT-loop
-μ-loop plan columns-at c g total₀ y₀ y-end total y = c .years - y
+μ-loop plan columns-at c t k i j total₀ y₀ y-end total y = c .years - y
 
 zero-requires : tie.Need-zero-requires Inv-loop μ-loop
 zero-requires c κs = search needs
@@ -20,8 +22,8 @@ zero-requires c κs = search needs
 loop-holds : tie.Need-loop-holds Inv-loop μ-loop
 loop-holds c = summed-none (c .zero .ensures)
 
-planned-by-year-plant-requires : tie.Need-planned-by-year-plant-requires Inv-loop μ-loop
-planned-by-year-plant-requires c κs = search needs
+planned-in-requires : tie.Need-planned-in-requires Inv-loop μ-loop
+planned-in-requires c κs = of-earlier-year (omega (arith, c .loop-test .taken)) (c .before .before .before .before .pre)
 
 add-product-requires : tie.Need-add-product-requires Inv-loop μ-loop
 add-product-requires c κs = search needs
@@ -36,21 +38,21 @@ loop-again : tie.Need-loop-again Inv-loop μ-loop
 loop-again c =
     let i = c .before .before in
     let h = i .before .loop .inv in
-    let built-is = c .before .planned-by-year-plant .ensures .0 in
-    summed-more h (i .loop-test .taken) (c .add-product .ensures ∙ rw (h .is, built-is, plus-cap))
+    let entry-is = c .before .planned-in .ensures .0 in
+    summed-more h (i .loop-test .taken) (c .add-product .ensures ∙ rw (h .is, entry-is, plus-cap))
 
 returns : tie.Need-returns Inv-loop μ-loop
 returns c = summed-all (c .before .loop .inv) (c .loop-test .left)
 
-pub build-sum-spec : {M : Type 1} → statement M
-build-sum-spec =
+pub over-years-spec : {M : Type 1} → statement M
+over-years-spec =
     tie.close
     (tie.spec
     Inv-loop
     μ-loop
     zero-requires
     loop-holds
-    planned-by-year-plant-requires
+    planned-in-requires
     add-product-requires
     add-y
     loop-less
