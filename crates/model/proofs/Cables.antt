@@ -13,7 +13,6 @@ use Rattle.sums.specs.Sum.{sum, on}
 use Rattle.sums.specs.Span.{fine}
 use Rattle.sums.specs.Index.{Index}
 use Rattle.sums.proofs.Sums.{sum-cong, sum-prefix, sum-one-more}
-use Rattle.sums.proofs.Spans.{orElse-fine}
 use Rattle.sums.proofs.Tests.{on-false, on-true, eqb-true}
 use Rattle.model.specs.Data.{Data, read, tableBoxes, either, _to_, most32, lineLimit, lineAnnuity, Z, Y}
 use Rattle.model.specs.Columns.{builtLines, totalLines}
@@ -22,7 +21,7 @@ use Rattle.model.specs.Tests.{above, below, constant⁺, constant⁻, da
 use Rattle.model.specs.Prices.{yearWeight, price}
 use Rattle.model.specs.Rival.{Rival}
 use Rattle.model.specs.Claims.{LinesBuilt, LinesAlike, LinesLimited, NoLineWithin, PairPaysOnce}
-use Rattle.model.proofs.Sound.{entry-range}
+use Rattle.model.proofs.Sound.{entry-range, passed-entries}
 
 module _ (D : Data) (M : ℕ) (x : Index → ℕ) (plan : Rival D M x) (z w : ℕ) (hz : z < Z D) (hw : w < Z D) where
   -- 26
@@ -76,10 +75,9 @@ lines-limited D M x plan y z w hy hz hw =
 
 -- data that pass the tests have line limit 0 within one zone
 none-within : (l : List ℕ) → dataFault l ≡ fine → (z : ℕ) → z < Z (read l) → lineLimit (read l) z z ≡ 0
-unfolding dataFault tableBoxes
+unfolding tableBoxes
 none-within l e z hz =
-    let tests = orElse-fine _ _ (orElse-fine _ _ (orElse-fine _ _ (orElse-fine _ _ e .1) .1) .1) in
-    omega (arith, entry-range (read l) (tests .0) 45 0 z z 0 (omega arith, omega arith, hz, hz, omega arith) .1, ap (λ (b : Bool). either b (0 to 0) (0 to most32) .most) (eqb-true z))
+    omega (arith, entry-range (read l) (passed-entries l e) 45 0 z z 0 (omega arith, omega arith, hz, hz, omega arith) .1, ap (λ (b : Bool). either b (0 to 0) (0 to most32) .most) (eqb-true z))
 
 pub no-line-within : NoLineWithin
 no-line-within l e M x plan y z hy hz =

@@ -74,13 +74,22 @@ pub count-range : (l : List ℕ) → countsFault l ≡ fine → (i : ℕ) → i 
 unfolding countsFault countFault
 count-range l e i h = in-range (1 to getD mostCounts i 0) (getD l i 0) (passed _ _ (upto-fine 7 (countFault l) e i h))
 
+-- data that pass the tests have every entry in its range, and their counts
+pub passed-entries : (l : List ℕ) → dataFault l ≡ fine → entriesFault (read l) ≡ fine
+unfolding dataFault
+passed-entries l e =
+    let tests = orElse-fine _ _ (orElse-fine _ _ (orElse-fine _ _ (orElse-fine _ _ e .1) .1) .1) in
+    search (tests)
+
+passed-counts : (l : List ℕ) → dataFault l ≡ fine → countsFault l ≡ fine
+unfolding dataFault
+passed-counts l e = orElse-fine _ _ (orElse-fine _ _ e .1) .0
+
 pub sound-places : SoundPlaces
-unfolding dataFault read
+unfolding read
 sound-places l e =
-    let a = orElse-fine _ _ (orElse-fine _ _ e .1) in
-    let tests = orElse-fine _ _ (orElse-fine _ _ (a .1) .1) in
-    let counts = count-range l (a .0) in
-    placed (read l) (search (tests)) (counts 0 (omega arith) .0) (counts 2 (omega arith) .0)
+    let counts = count-range l (passed-counts l e) in
+    placed (read l) (passed-entries l e) (counts 0 (omega arith) .0) (counts 2 (omega arith) .0)
 
 -- of two differences cut off at zero one is 0
 one-side : (a b : ℕ) → (a - b) * (b - a) ≡ 0
