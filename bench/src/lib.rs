@@ -2,8 +2,14 @@
 //! the requests that have landed, over plain slices, each row and each column by its
 //! own terms, in document order.
 //! It is tested against the second implementation, and nothing about it is proved.
+//!
+//! Beside it what the program `versions` times builds of the proved calls with:
+//! `library`, `currency` and `products`.
 
 pub mod columns;
+pub mod currency;
+pub mod library;
+pub mod products;
 pub mod rows;
 pub mod view;
 

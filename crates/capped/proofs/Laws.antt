@@ -5,15 +5,17 @@
 use mathlib.Core.Path.{_≡_, refl, sym, ap, _∙_}
 use mathlib.Core.Bool.{Bool, true, false, cond, _&&_}
 use mathlib.Core.Logic.{_⊎_, inl, inr, ⊎-elim}
-use Prim.Native.Nat.{ℕ, _+_, _*_, _-_, _/_, _^_, _<_, _≤_, zero-le}
-use native.Mathlib.Nat.{add-zero, mul-zero, lt-of-lt-of-le, le-mul-of-pos-right, le-div-iff-mul-le, div-lt-iff-lt-mul, eq-zero-or-pos, mul-comm, mul-le-mul}
+use Prim.Native.Nat.{ℕ, _+_, _*_, _-_, _^_, _<_, _≤_, zero-le}
+use native.Mathlib.Nat.{add-zero, mul-zero, lt-of-lt-of-le, le-mul-of-pos-right, eq-zero-or-pos, mul-comm}
 use native.Mathlib.Omega.{arith}
 use lib.Dec.{leb}
 use lib.ListN.{getD}
 use borrow.Author.Tests.{le-leb, lt-leb, leb-true, leb-false, ne-eqb}
+use Rattle.lengths.specs.Length.{bitLength}
+use Rattle.lengths.proofs.Laws.{length-least}
 use Rattle.capped.specs.declared.Sum.{Sum}
 use Rattle.capped.specs.declared.Sum.the-variants.{Exact, Over}
-use Rattle.capped.specs.Cap.{half, limit, cap, plus, plusIf, both, times, timesBoth, keptAs, keptSum}
+use Rattle.capped.specs.Cap.{straight, half, limit, cap, plus, plusIf, both, times, timesBoth, keptAs, keptSum}
 
 pub le-or-lt : (m n : ℕ) → (m ≤ n) ⊎ (n < m)
 le-or-lt m n = go (leb m n) refl
@@ -88,33 +90,25 @@ both-plus s n = go s (capped n)
 pub both-cap : (m n : ℕ) → both (cap m) (cap n) ≡ cap (m + n)
 both-cap m n = both-plus (cap m) n ∙ plus-cap m n
 
--- Products. The first three are what the code of `product` finds.
+-- Products. The first three are what the code of `product` finds of two factors with half the bits.
 
-pub zero-product : (a b : ℕ) → b ≡ 0 → Exact 0 ≡ cap (a * b)
-zero-product a b z = rw (z, mul-zero a, cap-zero)
-
--- two factors with half the bits
 pub first-large : (a b : ℕ) → half < a → false ≡ (leb a half && leb b half)
 first-large a b h = rw (lt-leb a half h)
 
 pub first-small : (a b : ℕ) {f : Bool} → a ≤ half → f ≡ leb b half → f ≡ (leb a half && leb b half)
 first-small a b h e = e ∙ rw (le-leb a half h)
 
-pub small-product : (a b : ℕ) {f : Bool} → f ≡ (leb a half && leb b half) → f ≡ true → a * b ≤ half * half
-small-product a b e t = go (leb a half) (leb b half) refl refl (sym e ∙ t)
+pub small-lengths : (a b : ℕ) {f : Bool} → f ≡ (leb a half && leb b half) → f ≡ true → bitLength a + bitLength b ≤ straight
+small-lengths a b e t = go (leb a half) (leb b half) refl refl (sym e ∙ t)
   where
     not-both : false ≡ true → ⊥
     not-both z = let w : _≡_ {A = ℕ} 0 1 = cc in omega arith
-    go : (p q : Bool) → leb a half ≡ p → leb b half ≡ q → (p && q) ≡ true → a * b ≤ half * half
-    go true true x y z = mul-le-mul (leb-true a half x) (leb-true b half y)
+    short : (n : ℕ) → leb n half ≡ true → bitLength n ≤ 31
+    short n s = let h = leb-true n half s in length-least n 31 (omega arith)
+    go : (p q : Bool) → leb a half ≡ p → leb b half ≡ q → (p && q) ≡ true → bitLength a + bitLength b ≤ straight
+    go true true x y z = omega (arith, short a x, short b y)
     go true false x y z = absurd (not-both z)
     go false q x y z = absurd (not-both z)
-
-pub low-product : {a b : ℕ} → 0 < b → a ≤ limit / b → a * b ≤ limit
-low-product p h = le-div-iff-mul-le p .0 h
-
-pub high-product : {a b : ℕ} → 0 < b → limit / b < a → limit < a * b
-high-product p h = div-lt-iff-lt-mul p .0 h
 
 pub times-zero : (s : Sum) → times s 0 ≡ cap 0
 unfolding times

@@ -6,14 +6,21 @@ ghost use mathlib.Core.Path.{_≡_};
 ghost use mathlib.Core.Bool.{_&&_};
 ghost use Prim.Native.Nat.{_+_, _*_};
 ghost use lib.Dec.{leb};
+ghost use Rattle.lengths.specs.Length.{bitLength};
 ghost use Rattle.capped.specs.declared.Sum.the-variants.{Exact};
-ghost use Rattle.capped.specs.Cap.{half, cap, plus, plusIf, both, times, timesBoth, keptAs, keptSum};
+ghost use Rattle.capped.specs.Cap.{half, straight, cap, plus, plusIf, both, times, timesBoth, keptAs, keptSum};
 
 // The largest total that a capped sum holds, 2^62 - 1: `limit` in the specs.
 pub const LIMIT: u64 = 0x3fff_ffff_ffff_ffff;
 
-// The largest number whose square is at most the limit: `half` in the specs, since it has half the bits.
+// Factors whose lengths in bits add up to this or less have a product of at most 2^62 - 1: `straight` in the specs.
+const STRAIGHT: u32 = 62;
+
+// The largest number of half as many bits: `half` in the specs.
 const HALF: u64 = 0x7fff_ffff;
+
+// The bits of a word.
+const WORD: u32 = 64;
 
 pub enum Sum {
     Exact(u64),
@@ -64,7 +71,7 @@ pub fn join(s: Sum, t: Sum) -> Sum
     add(s, n)
 }
 
-// Whether two factors are so small that their product is below the limit, whatever they are: each at most HALF.
+// Whether two factors are so small that their lengths add up to 62 or less, whatever they are: each at most HALF.
 fn both_small(a: u64, b: u64) -> bool
     ensures { λ r. ⌜ r ≡ (leb a half && leb b half) ⌝ }
 {
@@ -74,27 +81,35 @@ fn both_small(a: u64, b: u64) -> bool
     b <= HALF
 }
 
-// Every product is made here. Small factors, which most are, need no division.
+// Whether the lengths of two factors in bits add up to 62 or less. Most factors are small, and of these no length is asked for.
+fn lengths_fit(a: u64, b: u64) -> bool
+    ensures { λ r. ⌜ r ≡ leb (bitLength a + bitLength b) straight ⌝ }
+{
+    if both_small(a, b) {
+        return true;
+    }
+    lengths::together(a, b) <= STRAIGHT
+}
+
+// Every product is made here, and none needs a division: one whose factors' lengths say that it is at most 2^62 - 1 is taken straight.
 pub fn product(a: u64, b: u64) -> Sum
     ensures { λ r. ⌜ r ≡ cap (a * b) ⌝ }
 {
-    if both_small(a, b) {
+    if lengths_fit(a, b) {
         return Sum::Exact(a * b);
     }
-    large_product(a, b)
+    long_product(a, b)
 }
 
-// The zero factor is tested first: `LIMIT / b` needs it.
-fn large_product(a: u64, b: u64) -> Sum
+// Two lengths that add up to 64 or less leave a product that a word holds, and `of` compares it with the limit.
+// With more it is above the limit: one length alone is at most 64, so neither factor is 0.
+fn long_product(a: u64, b: u64) -> Sum
     ensures { λ r. ⌜ r ≡ cap (a * b) ⌝ }
 {
-    if b == 0 {
-        return Sum::Exact(0);
+    if lengths::together(a, b) <= WORD {
+        return of(a * b);
     }
-    if a > LIMIT / b {
-        return Sum::Over;
-    }
-    Sum::Exact(a * b)
+    Sum::Over
 }
 
 // `n` times a sum. A zero factor gives 0, also of a sum that is over.

@@ -7,7 +7,9 @@ use epm_reference::generator::anything::{any_contents, any_lists, steep};
 use epm_reference::generator::draft::Case;
 use epm_reference::generator::random::Random;
 use epm_reference::generator::stations::stations;
-use epm_reference::generator::{case, extremes, multiplier_edges, range_edges, twice_damaged_case};
+use epm_reference::generator::{
+    case, extremes, multiplier_edges, products, range_edges, twice_damaged_case,
+};
 use epm_reference::met::{absent, Met};
 use epm_reference::model::Model;
 use epm_reference::refusal::{
@@ -51,8 +53,8 @@ pub struct Agreement {
 }
 
 /// The inputs of seeds 0..inputs, the station's ten cases, the cases at the limit
-/// of the sums, entries and multipliers at the ends of their ranges, cases with two
-/// faults and lists of any content.
+/// of the sums, entries and multipliers at the ends of their ranges, products about
+/// their edges, cases with two faults and lists of any content.
 pub fn measure(inputs: u64) -> Agreement {
     let mut agreement = Agreement::default();
     for seed in 0..inputs {
@@ -70,6 +72,9 @@ pub fn measure(inputs: u64) -> Agreement {
         }
         for case in range_edges(seed) {
             agreement.compare(&format!("entry edge, seed {seed}"), &case);
+        }
+        for edge in products::edges(seed) {
+            agreement.compare(&edge.label(), &edge.case);
         }
     }
     let mut random = Random::new(inputs);

@@ -9,7 +9,9 @@ use epm_reference::generator::frames::{self, LINE_DAMAGES};
 use epm_reference::generator::large::{larger_than_any_buffer, largest_accepted, of_lengths};
 use epm_reference::generator::random::Random;
 use epm_reference::generator::stations::stations;
-use epm_reference::generator::{case, extremes, multiplier_edges, range_edges, twice_damaged_case};
+use epm_reference::generator::{
+    case, extremes, multiplier_edges, products, range_edges, twice_damaged_case,
+};
 use epm_reference::met::{absent, Met};
 use epm_reference::program::{answer, answer_line, read_lines};
 use epm_reference::refusal::{BROKEN, ENTRY, FRAME, OF_ALL_CALLS, OF_CERTIFY, PLACED, UNDERPRICED};
@@ -111,8 +113,8 @@ pub struct ProgramAgreement {
 /// The texts of seeds 0..inputs, half of them damaged, and a quarter as many put
 /// together at random; cases with two faults, of any content and with steep
 /// multipliers; entries and multipliers at the ends of their ranges; the cases at
-/// the limit of the sums; the ten stations, and one of them byte by byte; the
-/// largest inputs and larger ones.
+/// the limit of the sums, and of one seed the products about their edges; the ten
+/// stations, and one of them byte by byte; the largest inputs and larger ones.
 pub fn measure_program(inputs: u64) -> ProgramAgreement {
     let mut texts: Vec<Labelled> = vec![];
     for seed in 0..inputs {
@@ -138,6 +140,9 @@ pub fn measure_program(inputs: u64) -> ProgramAgreement {
     }
     for extreme in extremes::all() {
         texts.extend(plain("sums about their limit", &extreme.case));
+    }
+    for edge in products::edges(inputs) {
+        texts.extend(plain("products about their edges", &edge.case));
     }
     for station in stations() {
         texts.push(("one-plant station".to_string(), station.text()));

@@ -7,8 +7,9 @@ use crate::calls::{certify, check, post};
 use crate::generator::draft::Case;
 use crate::generator::frames;
 use crate::generator::random::Random;
-use crate::generator::{case, multiplier_edges, range_edges};
+use crate::generator::{case, multiplier_edges, products, range_edges};
 use crate::met::{absent, Met};
+use crate::product_count::ProductCount;
 use crate::program;
 use crate::refusal::{Refusal, BROKEN, ENTRY, FRAME, MULTIPLIER, REFUSAL_COUNT, UNDERPRICED};
 use crate::storage_count::StorageCount;
@@ -32,11 +33,13 @@ pub struct Coverage {
     pub met: Met,
     pub storage: StorageCount,
     pub cables: CableCount,
+    pub products: ProductCount,
 }
 
 /// Runs the inputs of seeds 0..inputs through all calls and, where they are
 /// small enough, through the program as well; and of one seed in two hundred the
-/// entries and multipliers at the ends of their ranges.
+/// entries and multipliers at the ends of their ranges and the products about their
+/// edges.
 pub fn measure(inputs: u64) -> Coverage {
     let mut coverage = Coverage::default();
     for seed in 0..inputs {
@@ -47,6 +50,10 @@ pub fn measure(inputs: u64) -> Coverage {
     for seed in 0..inputs / 200 {
         let edges = [range_edges(seed), multiplier_edges(seed)].concat();
         edges.iter().for_each(|case| coverage.count_case(case));
+        let edges = products::edges(seed);
+        edges
+            .iter()
+            .for_each(|edge| coverage.count_case(&edge.case));
     }
     coverage
 }
@@ -76,6 +83,7 @@ impl Coverage {
         }
         self.storage.count(case, certified);
         self.cables.count(case, certified);
+        self.products.count(case, certified);
         let mut counted = vec![];
         for refusal in refusals {
             if !counted.contains(&refusal.number) {
@@ -102,6 +110,7 @@ impl Coverage {
         missing.extend(self.met.missing_places(&placed));
         missing.extend(self.storage.missing());
         missing.extend(self.cables.missing());
+        missing.extend(self.products.missing());
         missing.extend(absent(&[
             (self.accepted, "accepted"),
             (self.bounds_above_zero, "bound above 0"),
@@ -126,7 +135,7 @@ impl fmt::Display for Coverage {
         writeln!(f, "inputs {}, texts {}", self.inputs, self.texts)?;
         writeln!(f, "accepted by all calls {}", self.accepted)?;
         writeln!(f, "certificates above 0 {}", self.bounds_above_zero)?;
-        write!(f, "{}{}", self.storage, self.cables)?;
+        write!(f, "{}{}{}", self.storage, self.cables, self.products)?;
         write!(f, "refusals met:\n{}", self.met.table(&refusals()))
     }
 }

@@ -11,8 +11,8 @@
 //! `calls`, `program` and `rival`; `explain` says an answer in words. The inputs for
 //! the tests come from `generator`; `optimum` works out the least cost of small ones,
 //! `coverage` counts which answers the inputs reach, `storage_count` what they have of
-//! batteries and `cable_count` of lines between zones, `rival_count` the rivals that
-//! certificates are held to.
+//! batteries, `cable_count` of lines between zones and `product_count` of products,
+//! `rival_count` the rivals that certificates are held to.
 
 pub mod cable_count;
 pub mod calls;
@@ -27,6 +27,7 @@ pub mod model;
 pub mod mps;
 pub mod optimum;
 pub mod prices;
+pub mod product_count;
 pub mod program;
 pub mod refusal;
 pub mod rival;

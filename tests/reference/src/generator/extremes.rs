@@ -10,7 +10,7 @@ use crate::shape::Shape;
 use crate::sums::LIMIT;
 
 const POWER: i128 = 1 << 31;
-const WIDEST: i128 = u32::MAX as i128;
+pub(super) const WIDEST: i128 = u32::MAX as i128;
 
 /// A case and the answer of certify.
 #[derive(Clone, Debug)]
@@ -96,7 +96,7 @@ fn refused(name: &'static str, draft: Draft, number: u32, place: usize) -> Extre
 }
 
 /// One existing plant of no size and no demand; R and V are 1.
-fn idle_plant(zones: usize, hours: usize) -> Draft {
+pub(super) fn idle_plant(zones: usize, hours: usize) -> Draft {
     let mut draft = Draft::empty(Shape::new([zones, 1, 1, 1, 1, hours, 1]), 1);
     draft.set_data(Table::ReturnRate, &[0], 1);
     draft.set_data(Table::Weight, &[0], 1);
@@ -105,7 +105,7 @@ fn idle_plant(zones: usize, hours: usize) -> Draft {
 }
 
 /// One candidate that may be built to any size.
-fn idle_candidate() -> Draft {
+pub(super) fn idle_candidate() -> Draft {
     let mut draft = idle_plant(1, 1);
     draft.set_data(Table::Kind, &[0], 1);
     draft.set_data(Table::Year, &[0], 1);
@@ -115,7 +115,7 @@ fn idle_candidate() -> Draft {
 }
 
 /// Cost GenCap·FixedOM + firmshort.
-fn dear_plant(capacity: i128, fixed: i128, firmshort: i128) -> Draft {
+pub(super) fn dear_plant(capacity: i128, fixed: i128, firmshort: i128) -> Draft {
     let mut draft = idle_plant(1, 1);
     draft.set_data(Table::GenCap, &[0], capacity);
     draft.set_data(Table::FixedOm, &[0, 0], fixed);
@@ -229,7 +229,7 @@ fn wide_store(past: i128) -> Draft {
 }
 
 /// Two zones, and lines in both directions, all built in the first year.
-fn laid_lines(total: i128) -> Draft {
+pub(super) fn laid_lines(total: i128) -> Draft {
     let mut draft = idle_plant(2, 1);
     for link in [[0, 1], [1, 0]] {
         let [z, z2] = link;

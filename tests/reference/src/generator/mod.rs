@@ -7,7 +7,8 @@
 //!   cases with a battery and `linked` small cases with lines, of gap 0 by the simplex
 //!   method;
 //! - `damage` changes a sound case so that a chosen refusal is met;
-//! - `extremes` are fixed cases at and just past 2^62 − 1;
+//! - `extremes` are fixed cases at and just past 2^62 − 1, `products` cases that turn on
+//!   one product, by the lengths of its two factors;
 //! - `anything` makes lists of any length and content;
 //! - `frames` writes a case as the program's text, sound and damaged; `bytes`
 //!   changes a text byte by byte, `large` makes texts as large as any that can be
@@ -26,6 +27,7 @@ pub mod linked;
 pub mod multipliers;
 pub mod needed;
 pub mod optimal;
+pub mod products;
 pub mod random;
 pub mod rivals;
 pub mod solved;

@@ -18,8 +18,12 @@ const LARGEST: i128 = u32::MAX as i128;
 
 /// Draws data and plan of a shape at scale N.
 pub fn draft(random: &mut Random, shape: Shape, scale: u32) -> Draft {
+    draft_of_size(random, shape, scale, plant_size(shape, scale))
+}
+
+/// The same with plants of at most `size` MW, which is at most `plant_size`.
+pub fn draft_of_size(random: &mut Random, shape: Shape, scale: u32, size: i128) -> Draft {
     let mut draft = Draft::empty(shape, scale);
-    let size = plant_size(shape, scale);
     draw_calendar(random, &mut draft);
     draw_fleet(random, &mut draft, size);
     plan_capacity(random, &mut draft, size);
