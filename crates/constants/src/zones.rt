@@ -16,7 +16,7 @@ use tables::names::S_RES;
 use tables::names::TL;
 use tables::starts::Starts;
 use terms::links::limits_into;
-use terms::links::limits_into_all_seasons;
+use terms::links::lowest_limits_into;
 ghost use mathlib.Core.Path.{_≡_};
 ghost use Prim.Native.Nat.{_<_};
 ghost use Rattle.sums.specs.Span.{fine};
@@ -80,12 +80,12 @@ pub fn spinning_constant(data: &[u32], tables_at: &Starts, c: Counts, y: usize, 
     }
 }
 
-// 4: 1000·Σ TL[z2,z] over z2 and all seasons − (1000 + PRM)·peak. The peak is the data's own, not scaled by EE.
+// 4: 1000·Σ of the lowest season limit of TL[z2,z] − (1000 + PRM)·peak. The peak is the data's own, not scaled by EE.
 pub fn firm_constant(data: &[u32], tables_at: &Starts, c: Counts, y: usize, z: usize) -> Constant
     requires { ⌜ TablesAt (now «data») (now «tables_at») c × ((entriesFault (read (now «data»)) ≡ fine) × ((y < c .years) × (z < c .zones))) ⌝ }
     ensures { λ r. ⌜ r ≡ constantOf (read (now («data» .entry))) (row 4 y z 0 0) ⌝ }
 {
-    let links = limits_into_all_seasons(data, tables_at, c, y, z);
+    let links = lowest_limits_into(data, tables_at, c, y, z);
     let rates = rates_of(data, tables_at, c, y, z);
     let peak = zone_peak(data, tables_at, c, y, z);
     Constant {

@@ -62,7 +62,7 @@ module _ (D : Data) where
       rw (spread (columnBoxes (D .counts)) x (equation D r .negative) (w .1), spread (columnBoxes (D .counts)) x (equation D r .positive) (w .0)) (h .meets r m)
 
   module _ (ms : List ℤ) (signs : multipliersFault D ms ≡ fine) (prices : columnsFault D ms ≡ fine) where
-    sign-of : (r : Index) → In (rows D) r → Signed (equal r) (m⁻ D ms r)
+    pub sign-of : (r : Index) → In (rows D) r → Signed (equal r) (m⁻ D ms r)
     unfolding multipliersFault multiplierFault
     sign-of r l =
         signed (equal r) (m⁻ D ms r) mostMultiplier

@@ -13,5 +13,6 @@ pub mod Absent
 pub mod Accepted
 pub mod Batteries
 pub mod Cables
+pub mod Seasons
 pub mod Rivals
 pub mod Sharp

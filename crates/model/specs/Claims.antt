@@ -1,25 +1,27 @@
 -- What is proved of the definitions, as statements; the proofs are in proofs/.
 -- Beside these: Printed.antt (each family reads as documents 01 and 02 print it) and Standing.antt (the rows of each kind of column).
 use mathlib.Core.Path.{_≡_}
-use mathlib.Core.Bool.{false, true, _&&_}
+use mathlib.Core.Bool.{Bool, false, true, _&&_}
 use mathlib.Core.List.{List, map}
-use Prim.Native.Nat.{ℕ, _+_, _*_, _≤_, _<_}
+use Prim.Native.Nat.{ℕ, _+_, _*_, _-_, _≤_, _<_}
 use lib.IntN.{ℤ, pos, _-ℤ_, _*ℤ_}
 use lib.Signed.{_≤ℤ_}
 use Rattle.sums.specs.Sum.{sum}
-use Rattle.sums.specs.Span.{listing, upFrom, fine, fault}
+use Rattle.sums.specs.Span.{listing, upFrom, total, fine, fault}
 use Rattle.sums.specs.declared.Box.{Box}
 use Rattle.sums.specs.Index.{Index, members, Member, number, count}
-use Rattle.sums.specs.Linear.{coefficient}
+use Rattle.sums.specs.Linear.{coefficient, value}
+use Rattle.sums.specs.Duality.{Holds}
 use Rattle.model.specs.declared.Refusal.{Refusal}
 use Rattle.model.specs.declared.Refusal.the-variants.{Storage}
 use Rattle.model.specs.declared.Answer.the-variants.{Accepted, Refused}
 use Rattle.model.specs.declared.Certificate.the-variants.{Issued}
 use Rattle.model.specs.Counts.{Counts}
-use Rattle.model.specs.Data.{Data, read, tableBoxes, demand, peak, isBattery, isVre, efficiency, lineLimit, lineAnnuity, hour, Z, G, Y, S}
+use Rattle.model.specs.Data.{Data, read, tableBoxes, demand, peak, tl, isBattery, isVre, efficiency, lineLimit, lineAnnuity, lowestLimit, hour, Z, G, Q, Y, S}
 use Rattle.model.specs.Columns.{columnBoxes, columnNumber, entries, cap, build, retire, gen, reserve, trans, unmet, surplus, spinshort, firmshort, charge, level, builtLines, totalLines}
-use Rattle.model.specs.Families.{rowBoxes, row, equation}
-use Rattle.model.specs.Tests.{headFault, countsFault, lengthFault, entriesFault, dataFault, constant⁺, constant⁻, constants⁺, constants⁻}
+use Rattle.model.specs.Families.{Equation, othersSum, rows, rowBoxes, row, equation, equal}
+use Rattle.model.specs.Earlier.{earlierFirm, earlierEquation}
+use Rattle.model.specs.Tests.{headFault, countsFault, lengthFault, entriesFault, dataFault, above, below, constant⁺, constant⁻, m⁺, m⁻, constants⁺, constants⁻}
 use Rattle.model.specs.Prices.{yearWeight, price, cost}
 use Rattle.model.specs.Calls.{check, certify, costOf, post, posted}
 use Rattle.model.specs.Rival.{Rival, Bounds, Binds, RivalPlan, Cheaper}
@@ -236,6 +238,48 @@ abbrev pub PairPaysOnce : Type 0
 PairPaysOnce =
     (D : Data) (x : Index → ℕ) (y z w : ℕ) → z < w
     → pairCost D x y z w ≡ yearWeight D y * lineAnnuity D z w * x (totalLines y z w)
+
+-- A cable in its weakest season, request (iv)
+
+-- in (21) each link into zone z counts once, with a share that is at most each of its seasons' limits and is one of them
+pub record LinkShares (D : Data) (y z : ℕ) : Type 0 where
+  pub counted : equation D (row 4 y z 0 0) .plus ≡ 1000 * othersSum D z (λ u. lowestLimit D y u z)
+  pub lowest : (u q : ℕ) → q < Q D → lowestLimit D y u z ≤ tl D y u z q
+  pub reached : (u : ℕ) → 0 < Q D → (q : ℕ) × (q < Q D) × (tl D y u z q ≡ lowestLimit D y u z)
+
+-- a plan in Mths meets a row: Σ a·entry + M·k is 0 or more, in an equality 0
+abbrev pub Met : Bool → Equation → ℕ → (Index → ℕ) → Type 0
+Met e f M x = Holds e (value (f .negative) x + M * f .minus) (value (f .positive) x + M * f .plus)
+
+-- (21) asks at least as much as the earlier row: its terms are the same and its links count for no more, so a plan that meets it met the earlier one
+pub record AsksNoLess (D : Data) (y z : ℕ) : Type 0 where
+  pub positive : equation D (row 4 y z 0 0) .positive ≡ earlierFirm D y z .positive
+  pub negative : equation D (row 4 y z 0 0) .negative ≡ earlierFirm D y z .negative
+  pub links : equation D (row 4 y z 0 0) .plus ≤ earlierFirm D y z .plus
+  pub asked : equation D (row 4 y z 0 0) .minus ≡ earlierFirm D y z .minus
+  pub met : (M : ℕ) (x : Index → ℕ) → Holds (equal (row 4 y z 0 0)) (below D M x (row 4 y z 0 0)) (above D M x (row 4 y z 0 0)) → Met (equal (row 4 y z 0 0)) (earlierFirm D y z) M x
+
+-- so every plan that meets the rows met all the earlier ones
+abbrev pub MeetsEarlier : Type 0
+MeetsEarlier = (D : Data) (M : ℕ) (x : Index → ℕ) → Rival D M x → (r : Index) → Member (rowBoxes (D .counts)) r → Met (equal r) (earlierEquation D r) M x
+
+-- where there is one season every row is the earlier one
+abbrev pub OneSeason : Type 0
+OneSeason = (D : Data) → Q D ≡ 1 → (r : Index) → equation D r ≡ earlierEquation D r
+
+-- the terms m·k of all rows, by sign, with the earlier (21)
+abbrev pub earlierConstants⁺ : Data → List ℤ → ℕ
+earlierConstants⁺ D ms =
+    total (rows D) (λ r. m⁺ D ms r * (earlierEquation D r .plus - earlierEquation D r .minus) + m⁻ D ms r * (earlierEquation D r .minus - earlierEquation D r .plus))
+abbrev pub earlierConstants⁻ : Data → List ℤ → ℕ
+earlierConstants⁻ D ms =
+    total (rows D) (λ r. m⁺ D ms r * (earlierEquation D r .minus - earlierEquation D r .plus) + m⁻ D ms r * (earlierEquation D r .plus - earlierEquation D r .minus))
+
+-- old multipliers tried anew: where certify accepts them with a plan, the gap is at most what cost + N·Σ m·k came to for the same plan with the earlier (21)
+abbrev pub GapNoLarger : Type 0
+GapNoLarger =
+    (l : List ℕ) (N : ℕ) (plan : List ℕ) (ms : List ℤ) (c g : ℕ) → certify l N plan ms ≡ Issued c g
+    → (earlier : ℕ) → earlier + N * earlierConstants⁻ (read l) ms ≡ c + N * earlierConstants⁺ (read l) ms → g ≤ earlier
 
 -- the peak is the largest Demand of the year and zone: none is above it, and it is one of them
 pub record IsPeak (D : Data) (y z : ℕ) : Type 0 where

@@ -4,7 +4,7 @@ use mathlib.Core.List.{List, [], _∷_, map}
 use Prim.Native.Nat.{ℕ, _+_, _*_, _-_, _/_, _%_}
 use lib.Dec.{eqb, leb, ltb}
 use lib.ListN.{length, getD}
-use Rattle.sums.specs.Sum.{sum, largest}
+use Rattle.sums.specs.Sum.{sum, largest, least}
 use Rattle.sums.specs.declared.Box.{Box}
 use Rattle.sums.specs.Index.{Index, index, boxOf, count, number}
 use Rattle.model.specs.Counts.{Counts, sets, slicesOf, seasonLength, [yzs], [yz], [yg], [g], [one], [y], [s], [qd], [gq], [gs], [z], [yzzq], [yzz], [yf], [zz]}
@@ -173,6 +173,8 @@ module _ (D : Data) where
   onMinLoadDay s = eqb (minLoad (season s) (day s)) 1
   abbrev pub peak : ℕ → ℕ → ℕ                 -- the largest Demand[y,z,·]
   peak y z = largest S (λ s. demand y z s)
+  abbrev pub lowestLimit : ℕ → ℕ → ℕ → ℕ      -- the least TL[y,z,z2,·]
+  lowestLimit y z w = least Q (λ q. tl y z w q)
 
 -- a table: the code of its index set, and the range of its entry at four indices
 pub record Table : Type 0 where

@@ -13,7 +13,7 @@ use Rattle.sums.specs.Linear.{Linear, nothing, _·_, ∑, _⊕_, when}
 use Rattle.model.specs.declared.Family.{Family}
 use Rattle.model.specs.declared.Shape.{Shape}
 use Rattle.model.specs.Counts.{Counts, sets, [yzs], [yzzs], [yz], [ygs], [ygq], [yg], [g], [yzf], [one], [y], [yzz], [zz]}
-use Rattle.model.specs.Data.{Data, rate, weight, duration, zone, fuel, genCap, year, maxNewCap, overLoad, resOffer, rampDn, rampUp, minCapFac, capCredit, heatRate, emission, availability, profile, annuity, demand, ee, sRes, prm, tl, loss, zoneCap, systemCap, maxFuel, buildLimit, err, maxCapital, Z, G, Q, Y, S, P, existing, candidate, season, afterFirstHour, onMinLoadDay, isVre, isBattery, efficiency, energyCapacity, lineLimit, mwPerLine, peak}
+use Rattle.model.specs.Data.{Data, rate, weight, duration, zone, fuel, genCap, year, maxNewCap, overLoad, resOffer, rampDn, rampUp, minCapFac, capCredit, heatRate, emission, availability, profile, annuity, demand, ee, sRes, prm, tl, loss, zoneCap, systemCap, maxFuel, buildLimit, err, maxCapital, Z, G, Y, S, P, existing, candidate, season, afterFirstHour, onMinLoadDay, isVre, isBattery, efficiency, energyCapacity, lineLimit, mwPerLine, peak, lowestLimit}
 use Rattle.model.specs.Columns.{cap, build, retire, gen, reserve, trans, unmet, surplus, spinshort, firmshort, charge, level, builtLines, totalLines}
 
 abbrev pub family : ℕ → ℕ → Bool → Family
@@ -161,12 +161,12 @@ module _ (D : Data) where
     minus = 1000 * sRes D y z;
   }
 
-  -- 4 (21): Σ CapCredit·cap + firmshort + 1000·Σ TL[z2,z] over z2 and all seasons ≥ (1000 + PRM)·peak
+  -- 4 (21): Σ CapCredit·cap + firmshort + 1000·Σ of the lowest season limit of TL[z2,z] ≥ (1000 + PRM)·peak
   unfoldable pub firm : ℕ → ℕ → Equation
   firm y z = record {
     positive = inZone z (λ g. capCredit D g · cap y g) ⊕ 1 · firmshort y z;
     negative = nothing;
-    plus = 1000 * othersSum z (λ u. sum (Q D) (λ q. tl D y u z q));
+    plus = 1000 * othersSum z (λ u. lowestLimit D y u z);
     minus = (1000 + prm D z) * peak D y z;
   }
 

@@ -4,7 +4,7 @@ use mathlib.Core.Path.{_≡_}
 use mathlib.Core.Bool.{Bool, true, false, not, _&&_, _||_}
 use Prim.Native.Nat.{ℕ, _+_, _*_, _-_, _^_, _/_, _%_, _<_}
 use lib.Dec.{eqb, leb, ltb}
-use Rattle.sums.specs.Sum.{sum, largest, on}
+use Rattle.sums.specs.Sum.{sum, largest, least, on}
 use Rattle.sums.specs.Span.{total}
 use Rattle.sums.specs.Index.{Index}
 use Rattle.sums.specs.Linear.{coefficient}
@@ -48,10 +48,10 @@ module _ (D : Data) (x : Index → ℕ) where
         (plantsIn z (λ g. 1000 * x (reserve y g s)) + 1 * x (spinshort y z s) + zonesBut z (λ u. 1000 * mwPerLine D u z * x (totalLines y u z)))
         (zonesBut z (λ u. 1000 * x (trans y u z s)) + plantsIn z (λ g. on (eqb (vre D g) 1) (err D * x (gen y g s))))
         (1000 * zonesBut z (λ u. tl D y u z (s / P D))) (1000 * sRes D y z)
-    -- 4 (21): Σ CapCredit·cap + firmshort + 1000·Σ TL[z2,z] over z2 and all seasons ≥ (1000 + PRM)·peak
+    -- 4 (21): Σ CapCredit·cap + firmshort + 1000·Σ of the lowest season limit of TL[z2,z] ≥ (1000 + PRM)·peak
     pub family4 : (y z : ℕ) → y < Y D → z < Z D → Reads (row 4 y z 0 0) 21 false
         (plantsIn z (λ g. capCredit D g * x (cap y g)) + 1 * x (firmshort y z)) 0
-        (1000 * zonesBut z (λ u. sum (Q D) (λ q. tl D y u z q))) ((1000 + prm D z) * largest (S D) (λ s. demand D y z s))
+        (1000 * zonesBut z (λ u. least (Q D) (λ q. tl D y u z q))) ((1000 + prm D z) * largest (S D) (λ s. demand D y z s))
     -- 5 (22): 1000·(gen + reserve) ≤ (1000 + OverLoad)·cap
     pub family5 : (y g s : ℕ) → y < Y D → g < G D → s < S D → Reads (row 5 y g 0 s) 22 false
         ((1000 + overLoad D g) * x (cap y g)) (1000 * x (gen y g s) + 1000 * x (reserve y g s)) 0 0

@@ -116,7 +116,7 @@ pub fn spinning(
     with_constant(above, below, scale, spinning_constant(data, tables_at, c, y, z, s))
 }
 
-// 4 (21): Σ CapCredit·cap + firmshort + 1000·Σ TL[z2,z] over z2 and all seasons ≥ (1000 + PRM)·peak
+// 4 (21): Σ CapCredit·cap + firmshort + 1000·Σ of the lowest season limit of TL[z2,z] ≥ (1000 + PRM)·peak
 pub fn firm(data: &[u32], plan: &[u32], tables_at: &Starts, columns_at: &Starts, c: Counts, scale: u64, y: usize, z: usize) -> Sides
     requires { ⌜ (TablesAt (now «data») (now «tables_at») c × ((entriesFault (read (now «data»)) ≡ fine) × ColumnsAt (now plan) (now «columns_at») c)) × ((y < c .years) × (z < c .zones)) ⌝ }
     ensures { λ r. ⌜ r ≡ sidesOf (read (now («data» .entry))) scale (planEntry c (now (plan .entry))) (row 4 y z 0 0) ⌝ }

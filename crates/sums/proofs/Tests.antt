@@ -108,3 +108,7 @@ next1 n k f = go (ltb (k + 1) n) (ltb→lt (k + 1) n) (lt→ltb (k + 1) n)
 pub on-le : (b : Bool) (u : ℕ) → on b u ≤ u
 on-le true u = le-refl u
 on-le false u = zero-le
+
+pub on-mono : (b : Bool) {u v : ℕ} → u ≤ v → on b u ≤ on b v
+on-mono true h = h
+on-mono false h = zero-le

@@ -14,12 +14,12 @@ use tables::names::TRANS;
 use tables::starts::Starts;
 ghost use mathlib.Core.Path.{_≡_};
 ghost use mathlib.Core.Bool.{not};
-ghost use Prim.Native.Nat.{_*_, _-_, _≤_, _<_};
+ghost use Prim.Native.Nat.{_*_, _-_, _≤_, _<_, min};
 ghost use lib.Dec.{eqb};
 ghost use Rattle.capped.specs.Cap.{cap};
-ghost use Rattle.sums.specs.Sum.{sum, on};
+ghost use Rattle.sums.specs.Sum.{sum, least, on};
 ghost use Rattle.model.specs.Counts.{slicesOf};
-ghost use Rattle.model.specs.Data.{read, tl, loss, mwPerLine};
+ghost use Rattle.model.specs.Data.{read, tl, loss, mwPerLine, most32};
 ghost use Rattle.model.specs.Columns.{trans, totalLines};
 ghost use Rattle.tables.specs.Layout.{Counted, TablesAt, ColumnsAt, planEntry};
 ghost use Rattle.terms.specs.Links.{link};
@@ -106,26 +106,32 @@ fn where_other(u: usize, z: usize, limit: u64) -> u64
     if u == z { 0 } else { limit }
 }
 
-// Σ TL[u,z] over the other zones u and all seasons.
-pub fn limits_into_all_seasons(data: &[u32], tables_at: &Starts, c: Counts, y: usize, z: usize) -> u64
+// Σ of the lowest season limit of TL[u,z] over the other zones u.
+pub fn lowest_limits_into(data: &[u32], tables_at: &Starts, c: Counts, y: usize, z: usize) -> u64
     requires { ⌜ TablesAt (now «data») (now «tables_at») c × ((y < c .years) × (z < c .zones)) ⌝ }
-    ensures { λ r. ⌜ (r ≡ sum (c .zones) (λ u. on (not (eqb u z)) (sum (c .seasons) (λ q. tl (read (now («data» .entry))) y u z q)))) × (r ≤ 137438953472) ⌝ }
+    ensures { λ r. ⌜ (r ≡ sum (c .zones) (λ u. on (not (eqb u z)) (least (c .seasons) (λ q. tl (read (now («data» .entry))) y u z q)))) × (r ≤ 34359738368) ⌝ }
 {
     let mut total = 0;
     for u in 0..c.zones {
-        total = total + where_other(u, z, seasons_limit(data, tables_at, c, y, u, z));
+        total = total + where_other(u, z, lowest_limit(data, tables_at, c, y, u, z));
     }
     total
 }
 
-// Σ TL[u,z] over the seasons.
-fn seasons_limit(data: &[u32], tables_at: &Starts, c: Counts, y: usize, u: usize, z: usize) -> u64
+// The lowest of TL[u,z] over the seasons, of which there is at least one.
+fn lowest_limit(data: &[u32], tables_at: &Starts, c: Counts, y: usize, u: usize, z: usize) -> u64
     requires { ⌜ TablesAt (now «data») (now «tables_at») c × ((y < c .years) × ((u < c .zones) × (z < c .zones))) ⌝ }
-    ensures { λ r. ⌜ (r ≡ sum (c .seasons) (λ q. tl (read (now («data» .entry))) y u z q)) × (r ≤ 17179869184) ⌝ }
+    ensures { λ r. ⌜ (r ≡ least (c .seasons) (λ q. tl (read (now («data» .entry))) y u z q)) × (r ≤ most32) ⌝ }
 {
-    let mut total = 0;
-    for q in 0..c.seasons {
-        total = total + by_link_season(data, tables_at, c, TL, y, u, z, q);
+    let mut lowest = by_link_season(data, tables_at, c, TL, y, u, z, 0);
+    for q in 1..c.seasons {
+        lowest = lower(lowest, by_link_season(data, tables_at, c, TL, y, u, z, q));
     }
-    total
+    lowest
+}
+
+fn lower(a: u64, b: u64) -> u64
+    ensures { λ r. ⌜ r ≡ min a b ⌝ }
+{
+    if a < b { a } else { b }
 }

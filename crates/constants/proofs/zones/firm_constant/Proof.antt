@@ -6,8 +6,8 @@ use borrow.Author.Needs.{needs}
 use Rattle.constants.proofs.zones.firm_constant.Statement.{statement}
 use Rattle.constants.proofs.zones.firm_constant.Tie as tie
 
-limits-into-all-seasons-requires : tie.Need-limits-into-all-seasons-requires
-limits-into-all-seasons-requires c κs = search needs
+lowest-limits-into-requires : tie.Need-lowest-limits-into-requires
+lowest-limits-into-requires c κs = search needs
 
 rates-of-requires : tie.Need-rates-of-requires
 rates-of-requires c κs = search needs
@@ -24,14 +24,14 @@ mul-t10 c = small 5000 0xffff_ffff tt (search needs) (c .before .zone-peak .ensu
 returns : tie.Need-returns
 unfolding constantOf
 returns c = 
-    constant-is (times-is refl (rw (c .before .before .before .before .before .pre .0 .counts) (c .before .before .before .limits-into-all-seasons .ensures .0)))
+    constant-is (times-is refl (rw (c .before .before .before .before .before .pre .0 .counts) (c .before .before .before .lowest-limits-into .ensures .0)))
     (times-is (c .before .before .rates-of .ensures .ofMargin) (c .before .zone-peak .ensures .0))
 
 pub firm-constant-spec : {M : Type 1} → statement M
 firm-constant-spec =
     tie.close
     (tie.spec
-    limits-into-all-seasons-requires
+    lowest-limits-into-requires
     rates-of-requires
     zone-peak-requires
     mul-t9
