@@ -393,7 +393,7 @@ impl Columns<'_> {
         }
         for (row, &m) in self.m(4).iter().enumerate() {
             let (y, z) = (row / v.z, row % v.z);
-            let links: u64 = (0..v.q).map(|q| v.links_into(y, z, q)).sum();
+            let links = v.lowest_links_into(y, z);
             let asked = (1000 + of(Table::Prm, z)) * i128::from(v.peak(y, z));
             add(m, 1000 * i128::from(links) - asked);
         }

@@ -240,7 +240,7 @@ impl<'v> Rows<'v> {
             for &g in &v.plants[z] {
                 value += i64::from(credit[g]) * i64::from(cap[y * v.g + g]);
             }
-            let links: u64 = (0..v.q).map(|q| v.links_into(y, z, q)).sum();
+            let links = v.lowest_links_into(y, z);
             let asked = (1000 + u64::from(margin[z])) * v.peak(y, z);
             value + self.scale as i64 * (1000 * links as i64 - asked as i64)
         })

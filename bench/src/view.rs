@@ -177,6 +177,19 @@ impl<'a> View<'a> {
             .sum()
     }
 
+    /// The lowest TL[y,z2,z,·] of all seasons, over z2 other than z.
+    pub fn lowest_links_into(&self, y: usize, z: usize) -> u64 {
+        let limits = self.table(Table::Tl);
+        let others = (0..self.z).filter(|&z2| z2 != z);
+        others
+            .map(|z2| {
+                let start = self.pair(y, z2, z) * self.q;
+                let seasons = &limits[start..start + self.q];
+                u64::from(*seasons.iter().min().expect("a season"))
+            })
+            .sum()
+    }
+
     /// The largest Demand[y,z,·].
     pub fn peak(&self, y: usize, z: usize) -> u64 {
         let start = (y * self.z + z) * self.s;

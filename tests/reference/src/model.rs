@@ -143,8 +143,8 @@ impl<'a> Model<'a> {
         row.constant = 1000 * links_in - 1000 * data.at(Table::SRes, &[y, z]);
     }
 
-    /// 4 (21): Σ CapCredit·cap in z + firmshort + 1000·Σ TL[z2,z] over z2 and all
-    /// seasons ≥ (1000 + PRM)·peak. Lines that are built do not count.
+    /// 4 (21): Σ CapCredit·cap in z + firmshort + 1000·Σ over z2 of the lowest TL[z2,z]
+    /// of all seasons ≥ (1000 + PRM)·peak. Lines that are built do not count.
     fn planning_reserve(&self, row: &mut RowBuilder, y: usize, z: usize) {
         let data = &self.data;
         let mut links_in = 0;
@@ -153,12 +153,18 @@ impl<'a> Model<'a> {
         }
         row.add(1, Column::FirmShort, &[y, z]);
         for z2 in data.zones_beside(z) {
-            for q in 0..data.shape.seasons {
-                links_in += data.at(Table::Tl, &[y, z2, z, q]);
-            }
+            links_in += self.lowest_season_limit(y, z2, z);
         }
         let margin = 1000 + data.at(Table::Prm, &[z]);
         row.constant = 1000 * links_in - margin * self.peak(y, z);
+    }
+
+    /// The least TL[y,z,z2,·]: each link has its own season in which it carries least.
+    fn lowest_season_limit(&self, y: usize, z: usize, z2: usize) -> i128 {
+        (0..self.data.shape.seasons)
+            .map(|q| self.data.at(Table::Tl, &[y, z, z2, q]))
+            .min()
+            .expect("at least one season")
     }
 
     /// The largest Demand[y,z,·]. EE does not scale it.

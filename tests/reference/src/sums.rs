@@ -11,8 +11,9 @@
 //!
 //! So a row's sum is below 2^(47+32+20) + 2^(10+62), the cost below
 //! 2^(60+32+20) and a column's sum below 2^(40+47+21). Family 18 has one row
-//! and every other constant is below 2^47 (family 4, 1000·Σ TL), so a sum of
-//! N·m·k is below 2^(10+40+62) + 2^(10+40+47+21). All are below 2^119.
+//! and every other constant is below 2^45 (family 1, Demand·EE; families 3 and 4,
+//! 1000·TL of at most seven links), so a sum of N·m·k is below
+//! 2^(10+40+62) + 2^(10+40+45+21). All are below 2^119.
 
 /// The largest sum that is on scale.
 pub const LIMIT: u128 = (1 << 62) - 1;

@@ -393,12 +393,20 @@ fn constant(data: &Data, family: usize, i: &[usize]) -> i128 {
             .map(|z2| data.at(Table::Tl, &[y, z2, z, q]))
             .sum()
     };
+    // Within one zone TL is 0 in every season.
+    let lowest = |y: usize, z: usize, z2: usize| -> i128 {
+        let mut limits: Vec<i128> = (0..shape.seasons)
+            .map(|q| data.at(Table::Tl, &[y, z, z2, q]))
+            .collect();
+        limits.sort();
+        limits[0]
+    };
     match family {
         1 => -(data.at(Table::Demand, i) * data.at(Table::Ee, &i[..2])),
         2 => data.at(Table::Tl, &[i[0], i[1], i[2], shape.season_of(i[3])]),
         3 => 1000 * (links_into(i[0], i[1], shape.season_of(i[2])) - data.at(Table::SRes, &i[..2])),
         4 => {
-            let links: i128 = (0..shape.seasons).map(|q| links_into(i[0], i[1], q)).sum();
+            let links: i128 = (0..shape.zones).map(|z2| lowest(i[0], z2, i[1])).sum();
             let demand = (0..shape.slices()).map(|s| data.at(Table::Demand, &[i[0], i[1], s]));
             let peak = demand.max().expect("a slice");
             1000 * links - (1000 + data.at(Table::Prm, &i[1..])) * peak

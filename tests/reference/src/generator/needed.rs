@@ -86,18 +86,27 @@ pub fn peak(draft: &Draft, y: usize, z: usize) -> i128 {
     demand.max().unwrap_or(0)
 }
 
+/// (21): what the links into a zone count together, in MW, each with the lowest of its
+/// season limits.
+pub fn firm_links(draft: &Draft, y: usize, z: usize) -> i128 {
+    let mut counted = 0;
+    for z2 in draft.zones_beside(z) {
+        let mut lowest = draft.data(Table::Tl, &[y, z2, z, 0]);
+        for q in 1..draft.shape.seasons {
+            lowest = lowest.min(draft.data(Table::Tl, &[y, z2, z, q]));
+        }
+        counted += lowest;
+    }
+    counted
+}
+
 /// (21) without the peak, in Nths of a kW.
 pub fn firm_supply(draft: &Draft, y: usize, z: usize) -> i128 {
     let mut supply = draft.entry(Column::FirmShort, &[y, z]);
     for g in draft.plants_in(z) {
         supply += draft.data(Table::CapCredit, &[g]) * draft.cap(y, g);
     }
-    for z2 in draft.zones_beside(z) {
-        for q in 0..draft.shape.seasons {
-            supply += 1000 * draft.scale() * draft.data(Table::Tl, &[y, z2, z, q]);
-        }
-    }
-    supply
+    supply + 1000 * draft.scale() * firm_links(draft, y, z)
 }
 
 /// (21): the largest PRM[z]; none where every peak is 0.

@@ -465,11 +465,7 @@ fn cover_firm_capacity(random: &mut Random, build: &mut Build, y: usize, z: usiz
         let credit = source.data(Table::CapCredit, &[g]);
         short -= credit * build.entry(Column::Cap, &[y, g]);
     }
-    for z2 in source.zones_beside(z) {
-        for q in 0..source.shape.seasons {
-            short -= 1000 * build.scale * source.data(Table::Tl, &[y, z2, z, q]);
-        }
-    }
+    short -= 1000 * build.scale * needed::firm_links(source, y, z);
     let firmshort = short.max(0) + extra(random);
     build.set(Column::FirmShort, &[y, z], firmshort);
 }
