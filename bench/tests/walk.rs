@@ -3,10 +3,12 @@
 
 use epm_reference::columns::Column;
 use epm_reference::data::Table;
+use epm_reference::earlier::certificates;
 use epm_reference::generator::anything::{any_contents, any_lists, steep};
 use epm_reference::generator::damage::{damage, Damage};
 use epm_reference::generator::draft::{Case, Draft};
 use epm_reference::generator::random::Random;
+use epm_reference::generator::seasons;
 use epm_reference::generator::stations::stations;
 use epm_reference::generator::{
     case, extremes, multiplier_edges, range_edges, sound_case, twice_damaged_case,
@@ -78,6 +80,25 @@ fn the_walk_agrees_on_seeded_inputs() {
     assert_eq!(agreement.met.missing(&refusals()), Vec::<String>::new());
     assert_eq!(agreement.met.missing_places(&PLACED), Vec::<String>::new());
     assert!(agreement.certified > 500);
+}
+
+/// Links by season in (21): cases worked out by hand, and certificates of the earlier row.
+#[test]
+fn the_walk_agrees_on_the_lowest_season_limit() {
+    let mut agreement = Agreement::default();
+    for worked in seasons::all() {
+        let answer = agreement.hold(&worked.name, &worked.case);
+        assert_eq!(answer, worked.answer, "{}", worked.name);
+    }
+    for earlier in certificates() {
+        let tried = earlier.tried();
+        let answer = agreement.hold(&earlier.name, &earlier.case);
+        assert_eq!(answer, tried.answer, "{}", earlier.name);
+        if let Some((mended, figures)) = tried.mended {
+            let answer = agreement.hold(&earlier.name, &mended);
+            assert_eq!(answer, Ok(figures), "{}, mended", earlier.name);
+        }
+    }
 }
 
 /// The generator's own shapes have few slices. These have runs of slices of all lengths that

@@ -15,6 +15,7 @@ use epm_reference::model::Model;
 use epm_reference::refusal::{
     Refusal, COLUMN_OFF_SCALE, OF_ALL_CALLS, OF_CERTIFY, OF_POST, PLACED,
 };
+use epm_reference::season_count::SeasonCount;
 use epm_reference::storage_count::StorageCount;
 use std::fmt::{self, Debug};
 
@@ -44,9 +45,11 @@ pub struct Agreement {
     /// Certificates whose bound, cost less gap, is above 0.
     pub bounds_above_zero: u64,
     pub by_certify: Met,
-    /// What the inputs of certify had of batteries, and of lines between zones.
+    /// What the inputs of certify had of batteries, of lines between zones and of links by
+    /// season.
     pub storage: StorageCount,
     pub cables: CableCount,
+    pub seasons: SeasonCount,
     /// First columns off scale that are underpriced as well.
     pub off_scale_and_underpriced: u64,
     pub differences: Vec<String>,
@@ -102,6 +105,7 @@ impl Agreement {
         self.count_certify(case, expected);
         self.storage.count(case, expected);
         self.cables.count(case, expected);
+        self.seasons.count(case, expected);
 
         let mut expected_board = case.board.clone();
         let mut board = case.board.clone();
@@ -154,6 +158,7 @@ impl Agreement {
         missing.extend(self.by_certify.missing_places(&PLACED));
         missing.extend(self.storage.missing());
         missing.extend(self.cables.missing());
+        missing.extend(self.seasons.missing());
         missing.extend(absent(&[
             (self.written, "a board written"),
             (self.far_from_zero, "a certificate far from zero"),
@@ -189,10 +194,11 @@ impl fmt::Display for Agreement {
         )?;
         write!(
             f,
-            "{}{}{}",
+            "{}{}{}{}",
             self.by_certify.table(&by_certify()),
             self.storage,
-            self.cables
+            self.cables,
+            self.seasons
         )?;
         writeln!(
             f,

@@ -12,6 +12,7 @@ use crate::met::{absent, Met};
 use crate::product_count::ProductCount;
 use crate::program;
 use crate::refusal::{Refusal, BROKEN, ENTRY, FRAME, MULTIPLIER, REFUSAL_COUNT, UNDERPRICED};
+use crate::season_count::SeasonCount;
 use crate::storage_count::StorageCount;
 use std::fmt;
 
@@ -33,6 +34,7 @@ pub struct Coverage {
     pub met: Met,
     pub storage: StorageCount,
     pub cables: CableCount,
+    pub seasons: SeasonCount,
     pub products: ProductCount,
 }
 
@@ -83,6 +85,7 @@ impl Coverage {
         }
         self.storage.count(case, certified);
         self.cables.count(case, certified);
+        self.seasons.count(case, certified);
         self.products.count(case, certified);
         let mut counted = vec![];
         for refusal in refusals {
@@ -110,6 +113,7 @@ impl Coverage {
         missing.extend(self.met.missing_places(&placed));
         missing.extend(self.storage.missing());
         missing.extend(self.cables.missing());
+        missing.extend(self.seasons.missing());
         missing.extend(self.products.missing());
         missing.extend(absent(&[
             (self.accepted, "accepted"),
@@ -135,7 +139,8 @@ impl fmt::Display for Coverage {
         writeln!(f, "inputs {}, texts {}", self.inputs, self.texts)?;
         writeln!(f, "accepted by all calls {}", self.accepted)?;
         writeln!(f, "certificates above 0 {}", self.bounds_above_zero)?;
-        write!(f, "{}{}{}", self.storage, self.cables, self.products)?;
+        write!(f, "{}{}", self.storage, self.cables)?;
+        write!(f, "{}{}", self.seasons, self.products)?;
         write!(f, "refusals met:\n{}", self.met.table(&refusals()))
     }
 }

@@ -11,14 +11,16 @@
 //! `calls`, `program` and `rival`; `explain` says an answer in words. The inputs for
 //! the tests come from `generator`; `optimum` works out the least cost of small ones,
 //! `coverage` counts which answers the inputs reach, `storage_count` what they have of
-//! batteries, `cable_count` of lines between zones and `product_count` of products,
-//! `rival_count` the rivals that certificates are held to.
+//! batteries, `cable_count` of lines between zones, `season_count` of links by season and
+//! `product_count` of products, `rival_count` the rivals that certificates are held to.
+//! `earlier` has certificates that were accepted before request (iv).
 
 pub mod cable_count;
 pub mod calls;
 pub mod columns;
 pub mod coverage;
 pub mod data;
+pub mod earlier;
 pub mod explain;
 pub mod fraction;
 pub mod generator;
@@ -34,6 +36,7 @@ pub mod rival;
 pub mod rival_count;
 pub mod rounding;
 pub mod rows;
+pub mod season_count;
 pub mod shape;
 pub mod storage_count;
 pub mod sums;

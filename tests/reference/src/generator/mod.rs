@@ -13,7 +13,8 @@
 //! - `frames` writes a case as the program's text, sound and damaged; `bytes`
 //!   changes a text byte by byte, `large` makes texts as large as any that can be
 //!   accepted, and larger;
-//! - `stations` are the ten cases of document 01's one-plant station;
+//! - `stations` are the ten cases of document 01's one-plant station, `seasons` fixed cases
+//!   of links by season;
 //! - `rivals` makes other feasible plans over the same data.
 
 pub mod anything;
@@ -30,6 +31,7 @@ pub mod optimal;
 pub mod products;
 pub mod random;
 pub mod rivals;
+pub mod seasons;
 pub mod solved;
 pub mod sound;
 pub mod stations;
@@ -53,7 +55,8 @@ pub struct Generated {
 }
 
 /// A small shape: thousands of cases a minute. One in ten has all counts 1,
-/// one in forty is of middle size.
+/// one in forty is of middle size, and of the others one in six has up to four seasons,
+/// each of one day.
 pub fn shape(random: &mut Random) -> Shape {
     if random.chance(1, 10) {
         return Shape::new([1; 7]);
@@ -61,7 +64,10 @@ pub fn shape(random: &mut Random) -> Shape {
     if random.chance(1, 40) {
         return Shape::new([4, 8, 3, 2, 2, 8, 4]);
     }
-    let largest = [3, 5, 2, 2, 2, 4, 4];
+    let largest = match random.below(6) {
+        0 => [3, 5, 2, 4, 1, 4, 4],
+        _ => [3, 5, 2, 2, 2, 4, 4],
+    };
     Shape::new(largest.map(|count| random.between(1, count) as usize))
 }
 
