@@ -17,6 +17,7 @@ const STATION: &[u8] = include_bytes!("../../../examples/station.txt");
 const TWO_ZONES: &[u8] = include_bytes!("../../../examples/two-zones.txt");
 const BATTERY: &[u8] = include_bytes!("../../../examples/battery.txt");
 const CABLE: &[u8] = include_bytes!("../../../examples/cable.txt");
+const SEASONS: &[u8] = include_bytes!("../../../examples/seasons.txt");
 const PAGE: &str = include_str!("../../../docs/FORMAT.md");
 
 fn battery() -> Shape {
@@ -25,6 +26,10 @@ fn battery() -> Shape {
 
 fn cable() -> Shape {
     Shape::new([2, 2, 1, 1, 1, 2, 2])
+}
+
+fn seasons() -> Shape {
+    Shape::new([2, 2, 1, 2, 1, 1, 1])
 }
 
 fn two_zones() -> Shape {
@@ -50,6 +55,7 @@ fn the_examples_are_answered_as_the_page_says() {
     assert_eq!(run(TWO_ZONES), "A 219320800000000 0\n");
     assert_eq!(run(BATTERY), "A 595600000000 0\n");
     assert_eq!(run(CABLE), "A 93785000000000000 0\n");
+    assert_eq!(run(SEASONS), "A 12951600000000000 0\n");
 }
 
 #[test]
@@ -58,6 +64,7 @@ fn lengths_of_the_examples() {
     for (shape, data, columns, rows) in [
         (battery(), 146, 95, 221),
         (cable(), 134, 104, 177),
+        (seasons(), 111, 52, 94),
         (two_zones(), 104, 52, 92),
         (two_years, 228, 356, 707),
     ] {
@@ -147,6 +154,10 @@ fn battery_answers(words: &str, change: impl FnOnce(&mut Input)) {
 
 fn cable_answers(words: &str, change: impl FnOnce(&mut Input)) {
     answers_as_shown(CABLE, words, change);
+}
+
+fn season_answers(words: &str, change: impl FnOnce(&mut Input)) {
+    answers_as_shown(SEASONS, words, change);
 }
 
 #[test]
@@ -350,18 +361,23 @@ fn the_cable_example_explained() {
     let mut third = read_lines(CABLE).expect("no Frame");
     third.data[123] = 0;
     for input in [first, third] {
-        let case = Case {
-            scale: input.scale(),
-            data: input.data,
-            plan: input.plan,
-            multipliers: input.multipliers,
-            ..Case::default()
-        };
-        let lines = explain(&join(&plain_lines(&case, 64)));
-        let lines = String::from_utf8(lines).expect("ASCII");
-        let sentence = lines.lines().nth(1).expect("two lines");
-        assert!(PAGE.contains(sentence), "the page lacks {sentence}");
+        sentence_is_shown(input);
     }
+}
+
+/// The page has what explain says of an input.
+fn sentence_is_shown(input: Input) {
+    let case = Case {
+        scale: input.scale(),
+        data: input.data,
+        plan: input.plan,
+        multipliers: input.multipliers,
+        ..Case::default()
+    };
+    let lines = explain(&join(&plain_lines(&case, 64)));
+    let lines = String::from_utf8(lines).expect("ASCII");
+    let sentence = lines.lines().nth(1).expect("two lines");
+    assert!(PAGE.contains(sentence), "the page lacks {sentence}");
 }
 
 /// What the page prints of the cable example: places with their tables, entries and
@@ -438,6 +454,20 @@ fn the_numbers_of_the_cable_example() {
     assert_eq!(input.multipliers, multipliers);
 }
 
+/// The simplex finds this least cost, in money units.
+fn is_least_cost(data: &[u32], cost: i128) {
+    let model = Model::read(data).expect("sound data");
+    let found = optimum(&model).expect("an optimum");
+    let mut least = Fraction::ZERO;
+    for (column, &entry) in found.entries.iter().enumerate() {
+        let price = Fraction::whole(model.price(column));
+        let part = entry.times(price).expect("128 bits");
+        least = least.plus(part).expect("128 bits");
+    }
+    let millionths = 1_000_000 * cost;
+    assert_eq!((least.numerator, least.denominator), (millionths, 1));
+}
+
 /// The cable example was worked out by hand; the simplex finds the same least cost, and the
 /// page's least costs at the other annuities.
 #[test]
@@ -449,16 +479,125 @@ fn the_cable_example_is_of_least_cost() {
     ] {
         let mut input = read_lines(CABLE).expect("no Frame");
         input.data[131] = annuity;
-        let model = Model::read(&input.data).expect("sound data");
-        let found = optimum(&model).expect("an optimum");
-        let mut least = Fraction::ZERO;
-        for (column, &entry) in found.entries.iter().enumerate() {
-            let price = Fraction::whole(model.price(column));
-            let part = entry.times(price).expect("128 bits");
-            least = least.plus(part).expect("128 bits");
-        }
-        let millionths = 1_000_000 * cost;
-        assert_eq!((least.numerator, least.denominator), (millionths, 1));
+        is_least_cost(&input.data, cost);
+    }
+}
+
+/// Cap and build of the engines of the season example.
+fn set_engines(input: &mut Input, mw: u32) {
+    set(&mut input.plan, &[(1, mw), (3, mw)]);
+}
+
+/// The earlier plan and the new one, each with the earlier multipliers, in which row 17 has 0.
+#[test]
+fn answers_to_the_earlier_plan_and_multipliers_of_the_season_example() {
+    season_answers(
+        "columns 1 and 3 (cap and build of the engines) 0, row 17's multiplier 0",
+        |input| {
+            set_engines(input, 0);
+            input.multipliers[17] = 0;
+        },
+    );
+    season_answers("row 17's multiplier 0", |input| input.multipliers[17] = 0);
+    season_answers(
+        "columns 1 and 3 0, column 35 (firmshort in zone 1) 4800000, row 17's multiplier 0",
+        |input| {
+            set_engines(input, 0);
+            input.plan[35] = 4_800_000;
+            input.multipliers[17] = 0;
+        },
+    );
+    season_answers(
+        "columns 1 and 3 0, column 35 (firmshort in zone 1) 4800000",
+        |input| {
+            set_engines(input, 0);
+            input.plan[35] = 4_800_000;
+        },
+    );
+}
+
+#[test]
+fn answers_to_changes_of_the_season_example() {
+    season_answers(
+        "columns 1 and 3 (cap and build of the engines) 4799",
+        |input| set_engines(input, 4799),
+    );
+    season_answers("place 72 (TL 0→1 in the wet season) 5", |input| {
+        input.data[72] = 5;
+    });
+    season_answers("place 72 (TL 0→1 in the wet season) 10", |input| {
+        input.data[72] = 10;
+    });
+    season_answers("place 71 (TL 0→1 in the dry season) 12", |input| {
+        input.data[71] = 12;
+    });
+    season_answers("place 74 (TL 1→0 in the wet season) 0", |input| {
+        input.data[74] = 0;
+    });
+    season_answers("row 17's multiplier 110000001", |input| {
+        input.multipliers[17] = 110_000_001;
+    });
+}
+
+/// The page has what explain says of the earlier plan.
+#[test]
+fn the_season_example_explained() {
+    let mut input = read_lines(SEASONS).expect("no Frame");
+    set_engines(&mut input, 0);
+    input.multipliers[17] = 0;
+    sentence_is_shown(input);
+}
+
+/// What the page prints of the season example: places with their tables, entries and
+/// multipliers; all entries and multipliers beside them are 0.
+#[test]
+fn the_numbers_of_the_season_example() {
+    let input = read_lines(SEASONS).expect("no Frame");
+    let data = DataLayout::new(seasons());
+    for (table, first, numbers) in [
+        (Table::ReturnRate, 7, vec![1000]),
+        (Table::Weight, 8, vec![1]),
+        (Table::Duration, 9, vec![5000, 3760]),
+        (Table::GenCap, 21, vec![45, 0]),
+        (Table::MaxNewCap, 25, vec![0, 20]),
+        (Table::CapCredit, 37, vec![1000, 1000]),
+        (Table::Annuity, 53, vec![0, 90_000_000]),
+        (Table::FixedOm, 55, vec![0, 20_000_000]),
+        (Table::GenCost, 57, vec![48_000, 70_000]),
+        (Table::Demand, 59, vec![25, 20, 9, 3]),
+        (Table::Prm, 67, vec![200, 200]),
+        (Table::Tl, 69, vec![0, 0, 10, 6, 10, 6, 0, 0]),
+        (Table::Loss, 77, vec![0, 40, 40, 0]),
+        (Table::ResVoll, 89, vec![150_000]),
+    ] {
+        let axes = TABLES[table as usize].axes;
+        assert_eq!(data.index(table, &vec![0; axes.len()]), first, "{table:?}");
+        let end = first + numbers.len();
+        assert_eq!(input.data[first..end], numbers, "{table:?}");
+    }
+    assert_eq!(input.scale, Some(1000));
+    let mut plan = vec![0; input.plan.len()];
+    set(&mut plan, &[(0, 45_000), (1, 4800), (3, 4800)]);
+    set(
+        &mut plan,
+        &[(6, 34_375), (7, 23_125), (16, 9375), (17, 3125)],
+    );
+    assert_eq!(input.plan, plan);
+    let mut multipliers = vec![0; input.multipliers.len()];
+    let balance = [240_000_000, 180_480_000, 250_000_000, 188_000_000];
+    multipliers[..balance.len()].copy_from_slice(&balance);
+    multipliers[17] = 110_000_000;
+    assert_eq!(input.multipliers, multipliers);
+}
+
+/// The season example was worked out by hand; the simplex finds the same least cost, and that
+/// 4 MW of engines fewer are needed where the cable carries 10 MW in both seasons.
+#[test]
+fn the_season_example_is_of_least_cost() {
+    for (wet, cost) in [(6, 12_951_600), (10, 12_511_600)] {
+        let mut input = read_lines(SEASONS).expect("no Frame");
+        input.data[72] = wet;
+        is_least_cost(&input.data, cost);
     }
 }
 

@@ -23,6 +23,7 @@ const TWO_YEARS: &[u8] = include_bytes!("../../../examples/two-years.txt");
 const TWO_ZONES: &[u8] = include_bytes!("../../../examples/two-zones.txt");
 const BATTERY: &[u8] = include_bytes!("../../../examples/battery.txt");
 const CABLE: &[u8] = include_bytes!("../../../examples/cable.txt");
+const SEASONS: &[u8] = include_bytes!("../../../examples/seasons.txt");
 
 const SOLVED: &str = include_str!("../solutions/two-years.sol");
 const GAS_1254: &str = include_str!("../solutions/two-years-gas-1254.sol");
@@ -316,7 +317,7 @@ fn tenth(number: i64) -> i64 {
 /// An example with 100 kW in the place of a MW is the same system: the same cost and gap.
 #[test]
 fn a_unit_of_100_kw() {
-    for example in [TWO_ZONES, BATTERY, CABLE] {
+    for example in [TWO_ZONES, BATTERY, CABLE, SEASONS] {
         hold_in_100_kw(read_lines(example).expect("no Frame"));
     }
 }
