@@ -177,7 +177,7 @@ impl<'a> View<'a> {
             .sum()
     }
 
-    /// The lowest TL[y,z2,z,·] of all seasons, over z2 other than z.
+    /// Σ of the lowest TL[y,z2,z,·] over z2 other than z.
     pub fn lowest_links_into(&self, y: usize, z: usize) -> u64 {
         let limits = self.table(Table::Tl);
         let others = (0..self.z).filter(|&z2| z2 != z);

@@ -3,11 +3,12 @@
 //! multipliers alone, and not through the rows of the implementation: where the links into a
 //! zone count so many MW less, its row of (21) and the constant of that row lose as much.
 
-use crate::columns::Column;
-use crate::data::Table;
+use crate::columns::{Column, ColumnLayout};
+use crate::data::{read_shape, DataLayout, Table};
 use crate::generator::draft::{Case, Draft};
-use crate::program::read_lines;
+use crate::program::{read_lines, Input};
 use crate::refusal::{Refusal, BROKEN};
+use crate::rows::RowLayout;
 
 /// How each was made, its input and, in the last line, the answer of the proved program at
 /// commit d1f86ff (`tests/README.md`).
@@ -43,19 +44,26 @@ fn read(text: &str) -> Earlier {
     let figures = answer.strip_prefix("A ").expect("an accepted certificate");
     let (cost, gap) = figures.split_once(' ').expect("cost and gap");
     let number = |digits: &str| digits.parse().expect("a number");
-    let input = read_lines(format!("{input}\n").as_bytes()).expect("no Frame");
-    let case = Case {
+    Earlier {
+        name: name.to_string(),
+        case: grown(read_lines(format!("{input}\n").as_bytes()).expect("no Frame")),
+        cost: number(cost),
+        gap: number(gap),
+    }
+}
+
+/// The lists with zeros for the tables, columns and rows that later requests add at their ends.
+fn grown(mut input: Input) -> Case {
+    let shape = read_shape(&input.data).expect("counts in range");
+    input.data.resize(DataLayout::new(shape).length(), 0);
+    input.plan.resize(ColumnLayout::new(shape).count(), 0);
+    input.multipliers.resize(RowLayout::new(shape).count(), 0);
+    Case {
         scale: input.scale(),
         data: input.data,
         plan: input.plan,
         multipliers: input.multipliers,
         ..Case::default()
-    };
-    Earlier {
-        name: name.to_string(),
-        case,
-        cost: number(cost),
-        gap: number(gap),
     }
 }
 
