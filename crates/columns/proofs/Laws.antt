@@ -23,7 +23,7 @@ use Rattle.model.specs.Columns.{columnBoxes}
 use Rattle.model.specs.Families.{family, families, familyOf, rows, rowBoxes, equation, familyCount}
 use Rattle.model.specs.Standing.{Placed, standing⁺, standing⁻}
 use Rattle.model.specs.Tests.{multiplier, m⁺, m⁻, priced⁺, priced⁻}
-use Rattle.model.proofs.Standing.{stands}
+use Rattle.standing.proofs.Standing.{stands}
 use Rattle.tables.specs.Layout.{Counted}
 use Rattle.tables.proofs.Laws.{getD-map-in}
 use Rattle.duals.specs.Multipliers.{multiplierOf, RowsAt}

@@ -1,6 +1,8 @@
 // Families 1 to 4 and 27: the constants of the rows of a zone and of a pair of zones.
 use crate::Constant;
 use energy::peak::zone_peak;
+use links::limits_into;
+use links::lowest_limits_into;
 use model::Counts;
 use parts::slices::season_of;
 use tables::entries::by_link_season;
@@ -15,8 +17,6 @@ use tables::names::PRM;
 use tables::names::S_RES;
 use tables::names::TL;
 use tables::starts::Starts;
-use terms::links::limits_into;
-use terms::links::lowest_limits_into;
 ghost use mathlib.Core.Path.{_≡_};
 ghost use Prim.Native.Nat.{_<_};
 ghost use Rattle.sums.specs.Span.{fine};

@@ -3,7 +3,6 @@ pub mod Lengths
 pub mod Members
 pub mod Within
 pub mod Printed
-pub mod Standing
 pub mod OneSign
 pub mod Numbers
 pub mod Peak

@@ -2,15 +2,14 @@
 -- `Summed` and `Added` are records and no products, so that a law finds the term f and the number of turns in the invariant.
 use mathlib.Core.Path.{_≡_, refl, sym, ap, _∙_}
 use mathlib.Core.Bool.{Bool, true, false}
-use Prim.Native.Nat.{ℕ, _+_, _*_, _≤_, _<_, min, zero-le}
+use Prim.Native.Nat.{ℕ, _+_, _*_, _≤_, _<_, zero-le}
 use native.Mathlib.Nat.{add-zero, le-antisymm, mul-assoc, mul-le-mul}
 use native.Mathlib.Omega.{arith}
 use Rattle.capped.specs.declared.Sum.{Sum}
 use Rattle.capped.specs.Cap.{cap, plusIf}
 use Rattle.capped.proofs.Laws.{plus-cap}
-use Rattle.sums.specs.Sum.{sum, least, on}
+use Rattle.sums.specs.Sum.{sum, on}
 use Rattle.sums.proofs.Sums.{sum-one-more}
-use Rattle.sums.proofs.Least.{least-one, least-one-more}
 use Rattle.sums.proofs.Numbering.{below-product}
 use Rattle.model.specs.declared.Counts.{Counts}
 use Rattle.model.specs.Counts.{slicesOf, seasonLength}
@@ -65,21 +64,3 @@ few-season-slices few = mul-le-mul (few .fewDays) (few .fewHours)
 -- slice i of season q is one of the year's
 pub season-slice-below : (c : Counts) {q i : ℕ} → q < c .seasons → i < seasonLength c → q * seasonLength c + i < slicesOf c
 season-slice-below c hq hi = rw (mul-assoc (c .seasons) (c .days) (c .hours)) (below-product (c .seasons) (seasonLength c) hq hi)
-
--- The least of terms up to `most`: after k of n turns, the first before the loop, v is the least of the first k terms.
-
-pub record Lowest (n most : ℕ) (f : ℕ → ℕ) (k v : ℕ) : Type 0 where
-  pub some : 1 ≤ k
-  pub upto : k ≤ n
-  pub is : v ≡ least k f
-  pub few : v ≤ most
-
-pub lowest-one : {n most v : ℕ} {f : ℕ → ℕ} → 1 ≤ n → v ≡ f 0 → v ≤ most → Lowest n most f 1 v
-lowest-one {f} l e q = record { some = omega arith; upto = l; is = e ∙ sym (least-one f); few = q }
-
-module _ {n most : ℕ} {f : ℕ → ℕ} {k v : ℕ} (h : Lowest n most f k v) where
-  pub lowest-more : {t r : ℕ} → k < n → t ≡ f k → r ≡ min v t → Lowest n most f (k + 1) r
-  lowest-more l e q = record { some = omega arith; upto = omega arith; is = omega (arith, least-one-more k f (h .some)); few = omega arith }
-
-  pub lowest-all : n ≤ k → v ≡ least n f
-  lowest-all l = h .is ∙ ap (λ (m : ℕ). least m f) (le-antisymm (h .upto) l)

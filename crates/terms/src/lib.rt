@@ -1,4 +1,3 @@
-// The sums that rows are made of: over the zones linked with a zone, over the plants of a zone, over years and slices.
-pub mod links;
+// Sums that rows are made of: over the plants of a zone, over years and slices. Those over linked zones are in `links`.
 pub mod plants;
 pub mod years;

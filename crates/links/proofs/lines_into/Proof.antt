@@ -1,0 +1,71 @@
+use mathlib.Core.Path.{_∙_}
+use mathlib.Core.Bool.{not}
+use Prim.Native.Nat.{_*_, _-_}
+use lib.Dec.{eqb}
+use Rattle.sums.specs.Sum.{on}
+use Rattle.model.specs.Data.{read, mwPerLine}
+use Rattle.model.specs.Columns.{totalLines}
+use Rattle.tables.specs.Layout.{planEntry}
+use Rattle.terms.proofs.Laws.{plus-on, Summed, summed-none, summed-more, summed-all}
+use borrow.Author.Needs.{needs}
+use Rattle.links.proofs.lines_into.Statement.{statement}
+use Rattle.links.proofs.lines_into.Tie as tie
+
+abbrev Inv-loop : tie.InvT-loop
+Inv-loop «data» plan tables-at columns-at c y z total₀ u₀ u-end total u =
+    Summed (c .zones) (λ u. on (not (eqb u z)) (1000 * mwPerLine (read «data») u z * planEntry c plan (totalLines y u z))) u total
+
+abbrev μ-loop : tie.MeasureT-loop
+μ-loop «data» plan tables-at columns-at c y z total₀ u₀ u-end total u = c .zones - u
+
+zero-requires : tie.Need-zero-requires Inv-loop μ-loop
+zero-requires c κs = search needs
+
+loop-holds : tie.Need-loop-holds Inv-loop μ-loop
+loop-holds c = summed-none (c .zero .ensures)
+
+by-pair-requires : tie.Need-by-pair-requires Inv-loop μ-loop
+by-pair-requires c κs = search needs
+
+planned-by-link-requires : tie.Need-planned-by-link-requires Inv-loop μ-loop
+planned-by-link-requires c κs = search needs
+
+mul-add-product-if : tie.Need-mul-add-product-if Inv-loop μ-loop
+mul-add-product-if c = search needs
+
+add-product-if-requires : tie.Need-add-product-if-requires Inv-loop μ-loop
+add-product-if-requires c κs = search needs
+
+add-u : tie.Need-add-u Inv-loop μ-loop
+add-u c = search needs
+
+loop-less : tie.Need-loop-less Inv-loop μ-loop
+loop-less c = search needs
+
+loop-again : tie.Need-loop-again Inv-loop μ-loop
+loop-again c =
+    let i = c .before .before .before in
+    let h = i .before .loop .inv in
+    let power-is = c .before .before .by-pair .ensures .0 in
+    let lines-is = c .before .planned-by-link .ensures .0 in
+    summed-more h (i .loop-test .taken) (c .add-product-if .ensures ∙ rw (h .is, power-is, lines-is, plus-on))
+
+returns : tie.Need-returns Inv-loop μ-loop
+returns c = summed-all (c .before .loop .inv) (c .loop-test .left)
+
+pub lines-into-spec : {M : Type 1} → statement M
+lines-into-spec =
+    tie.close
+    (tie.spec
+    Inv-loop
+    μ-loop
+    zero-requires
+    loop-holds
+    by-pair-requires
+    planned-by-link-requires
+    mul-add-product-if
+    add-product-if-requires
+    add-u
+    loop-less
+    loop-again
+    returns)
