@@ -1,6 +1,6 @@
 -- Answers, lines and explanations as the code leaves them. Assumes nothing.
 use mathlib.Core.Path.{_≡_, refl, sym, ap, _∙_}
-use mathlib.Core.List.{List, _++_}
+use mathlib.Core.List.{List, _++_, append-assoc}
 use Prim.Native.Nat.{ℕ, _-_, _≤_}
 use native.Mathlib.Nat.{zero-add}
 use native.Mathlib.Omega.{arith}
@@ -30,9 +30,9 @@ answered l N plan ms (Withheld r) e = refused-asked l N plan ms (sym e)
 
 told-binds : (t : Text) → (a : Certificate) × ((rest : List ℕ) × ((explanationOf t ≡ lineOf a ++ rest) × BindsRead t a))
 unfolding explanationOf certifiedWords answerWords
-told-binds (frameAt n) = (Withheld (Frame n), (_, (refl, tt)))
+told-binds (frameAt n) = (Withheld (Frame n), (_, (append-assoc (lineOf (Withheld (Frame n))) _ _, tt)))
 told-binds (whole s) =
-    (certify (s .ofData) (scaleIn (s .ofScal)) (s .ofPlan) (s .ofDual), (_, (refl, demand3 (s .ofData) (scaleIn (s .ofScal)) (s .ofPlan) (s .ofDual))))
+    (certify (s .ofData) (scaleIn (s .ofScal)) (s .ofPlan) (s .ofDual), (_, (append-assoc (lineOf (certify (s .ofData) (scaleIn (s .ofScal)) (s .ofPlan) (s .ofDual))) _ _, demand3 (s .ofData) (scaleIn (s .ofScal)) (s .ofPlan) (s .ofDual))))
 
 line-binds : (input : List ℕ) → LineBinds input
 unfolding explainText

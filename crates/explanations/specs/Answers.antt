@@ -1,6 +1,8 @@
--- What is said of an answer of certify, as bytes: one line.
+-- What is said of an answer of certify, as bytes: one sentence, without its line feed.
+use mathlib.Core.Bool.{cond}
 use mathlib.Core.List.{List, _++_}
 use Prim.Native.Nat.{ℕ}
+use lib.Dec.{eqb}
 use lib.IntN.{ℤ}
 use lib.ListN.{length}
 use Rattle.model.specs.declared.Refusal.{Refusal}
@@ -11,6 +13,7 @@ use Rattle.model.specs.Data.{read}
 use Rattle.model.specs.Columns.{entries}
 use Rattle.model.specs.Calls.{codeOf}
 use Rattle.texts.specs.Claims.{bytes}
+use Rattle.frames.specs.Format.{scaleIn}
 use Rattle.writer.specs.Names.{nameAt}
 use Rattle.sentences.specs.Sentences.{with, lengthWords, shapeWords, outOfRangeWords, storageWords, scaleWords, offScaleWords, brokenWords, multiplierWords, columnOffScaleWords, underpricedWords}
 
@@ -24,12 +27,16 @@ frameWords n =
     with "line " n ++ bytes " of the input is not a line of DATA, PLAN, SCAL or DUAL as docs/FORMAT.md has them, or brings more numbers than may come"
 
 -- an acceptance: cost and gap are N times the millionths of a money unit
-unfoldable pub acceptedWords : ℕ → ℕ → ℕ → List ℕ
-acceptedWords N cost gap =
-    with "Accepted: the plan costs " cost
-    ++ (with " and no other plan costs less by more than " gap ++ (with ", in millionths of a money unit times the scale " N ++ bytes "\n"))
+unfoldable pub acceptedWords : ℕ → ℕ → List ℕ
+acceptedWords cost gap =
+    with "Accepted: the plan costs " cost ++ (with " and no other plan costs less by more than " gap ++ bytes ", in millionths of a money unit times N")
 
--- The whole sentence
+-- the scale that was taken, and where it comes from, by the numbers of the SCAL line
+unfoldable pub scaleTaken : List ℕ → List ℕ
+scaleTaken xs =
+    with "; the scale N is " (scaleIn xs) ++ cond (eqb (length xs) 0) (bytes ", the default where there is no SCAL line") (bytes ", from the SCAL line")
+
+-- The sentence
 
 module _ (l : List ℕ) (N : ℕ) (plan : List ℕ) (ms : List ℤ) where
   -- the place of a refusal, and its figures; certify never answers 14 (`refused-asked` in proofs/Refused.antt)
@@ -53,9 +60,8 @@ module _ (l : List ℕ) (N : ℕ) (plan : List ℕ) (ms : List ℤ) where
 
   -- a refusal's word, then its place
   unfoldable pub refusedWords : Refusal → List ℕ
-  refusedWords r = nameAt refusalNames (codeOf r .number) ++ (bytes ": " ++ (bodyWords r ++ bytes "\n"))
+  refusedWords r = nameAt refusalNames (codeOf r .number) ++ (bytes ": " ++ bodyWords r)
 
-  -- one line
   unfoldable pub sentence : Certificate → List ℕ
-  sentence (Issued cost gap) = acceptedWords N cost gap
+  sentence (Issued cost gap) = acceptedWords cost gap
   sentence (Withheld r) = refusedWords r

@@ -9,11 +9,12 @@ use Rattle.model.specs.declared.Certificate.the-variants.{Withheld}
 use Rattle.model.specs.declared.Refusal.the-variants.{Frame}
 use Rattle.model.specs.Calls.{certify}
 use Rattle.texts.specs.Format.{Text, frameAt, whole, textOf}
+use Rattle.texts.specs.Claims.{bytes}
 use Rattle.frames.specs.Format.{scaleIn, BindsText}
 use Rattle.answer_line.specs.Line.{lineOf}
 use Rattle.writer.specs.Writing.{room}
 use Rattle.explanations.specs.declared.Explanation.{Explanation}
-use Rattle.explanations.specs.Answers.{sentence}
+use Rattle.explanations.specs.Answers.{scaleTaken, sentence}
 
 module _ (l : List ℕ) (N : ℕ) (plan : List ℕ) (ms : List ℤ) where
   unfoldable pub answerWords : Certificate → List ℕ
@@ -22,10 +23,10 @@ module _ (l : List ℕ) (N : ℕ) (plan : List ℕ) (ms : List ℤ) where
   unfoldable pub certifiedWords : List ℕ
   certifiedWords = answerWords (certify l N plan ms)
 
--- of a Frame nothing is said but its line's number
+-- of a Frame nothing is said but its line's number; no scale was taken then. Every other sentence ends with the scale (request (v))
 unfoldable pub explanationOf : Text → List ℕ
-explanationOf (frameAt n) = answerWords [] 1 [] [] (Withheld (Frame n))
-explanationOf (whole s) = certifiedWords (s .ofData) (scaleIn (s .ofScal)) (s .ofPlan) (s .ofDual)
+explanationOf (frameAt n) = answerWords [] 1 [] [] (Withheld (Frame n)) ++ bytes "\n"
+explanationOf (whole s) = certifiedWords (s .ofData) (scaleIn (s .ofScal)) (s .ofPlan) (s .ofDual) ++ (scaleTaken (s .ofScal) ++ bytes "\n")
 
 unfoldable pub explainText : List ℕ → List ℕ
 explainText input = explanationOf (textOf input)

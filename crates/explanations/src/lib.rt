@@ -32,7 +32,7 @@ ghost use Rattle.texts.specs.Format.{whole};
 ghost use Rattle.answer_line.specs.Line.{lineOf};
 ghost use Rattle.writer.specs.Writing.{Started, Said};
 ghost use Rattle.explanations.specs.Asked.{Asked, AskedOf};
-ghost use Rattle.explanations.specs.Answers.{frameWords, bodyWords, refusedWords, acceptedWords, sentence};
+ghost use Rattle.explanations.specs.Answers.{frameWords, bodyWords, refusedWords, acceptedWords, scaleTaken, sentence};
 ghost use Rattle.explanations.specs.Explained.{answerWords, certifiedWords, explanationOf, Explains};
 
 // The bytes of an explanation: the first `used` of them.
@@ -83,19 +83,29 @@ fn say_refusal(line: &mut [u8; ROOM], at: usize, data: &[u32], scale: u32, plan:
     let code = code_of(refusal);
     let named = say_name(line, at, b"/Shape/Data length/Entry/Scale/Plan length/Row off scale/Broken/Cost off scale/Multiplier count/Multiplier/Column off scale/Underpriced/Gap off scale/Board/Frame/Storage", code.number as usize);
     let parted = say(line, named, b": ");
-    let placed = say_body(line, parted, data, scale, plan, multipliers, refusal);
-    say(line, placed, b"\n")
+    say_body(line, parted, data, scale, plan, multipliers, refusal)
 }
 
 // An acceptance: what the cost and the gap say.
-fn say_accepted(line: &mut [u8; ROOM], at: usize, scale: u32, cost: u64, gap: u64) -> usize
+fn say_accepted(line: &mut [u8; ROOM], at: usize, cost: u64, gap: u64) -> usize
     requires { ⌜ Started (now line) at ⌝ }
-    ensures { λ r. ⌜ Said (now (line .entry)) at (acceptedWords scale cost gap) r (now (line .exit)) ⌝ }
+    ensures { λ r. ⌜ Said (now (line .entry)) at (acceptedWords cost gap) r (now (line .exit)) ⌝ }
 {
     let costed = say_with(line, at, b"Accepted: the plan costs ", cost);
     let bound = say_with(line, costed, b" and no other plan costs less by more than ", gap);
-    let scaled = say_with(line, bound, b", in millionths of a money unit times the scale ", scale as u64);
-    say(line, scaled, b"\n")
+    say(line, bound, b", in millionths of a money unit times N")
+}
+
+// The scale that was taken, and whether it is the default: an answer to a plan in MW that was read in thousandths is not understood without it.
+fn say_scale_taken(line: &mut [u8; ROOM], at: usize, scal: &[u32]) -> usize
+    requires { ⌜ Started (now line) at ⌝ }
+    ensures { λ r. ⌜ Said (now (line .entry)) at (scaleTaken (now (scal .entry))) r (now (line .exit)) ⌝ }
+{
+    let told = say_with(line, at, b"; the scale N is ", scale_in(scal) as u64);
+    if scal.len() == 0 {
+        return say(line, told, b", the default where there is no SCAL line");
+    }
+    say(line, told, b", from the SCAL line")
 }
 
 fn say_sentence(line: &mut [u8; ROOM], at: usize, data: &[u32], scale: u32, plan: &[u32], multipliers: &[i64], answer: Certificate) -> usize
@@ -103,7 +113,7 @@ fn say_sentence(line: &mut [u8; ROOM], at: usize, data: &[u32], scale: u32, plan
     ensures { λ r. ⌜ Said (now (line .entry)) at (sentence (now («data» .entry)) scale (now (plan .entry)) (now (multipliers .entry)) answer) r (now (line .exit)) ⌝ }
 {
     match answer {
-        Certificate::Issued(cost, gap) => say_accepted(line, at, scale, cost, gap),
+        Certificate::Issued(cost, gap) => say_accepted(line, at, cost, gap),
         Certificate::Withheld(refusal) => say_refusal(line, at, data, scale, plan, multipliers, refusal),
     }
 }
@@ -136,7 +146,7 @@ fn explain_lists(line: &mut [u8; ROOM], data: &[u32], scale: u32, plan: &[u32], 
     say_answer(line, data, scale, plan, multipliers, answer)
 }
 
-// The same of the numbers that the buffers hold.
+// The same of the numbers that the buffers hold, and the scale among them.
 fn explain_buffers(line: &mut [u8; ROOM], used: Used, data: &[u32], plan: &[u32], scal: &[u32], dual: &[i64]) -> usize
     requires { ⌜ Started (now line) 0 × (Room (now «data») (now plan) (now scal) (now dual) × Within used) ⌝ }
     ensures { λ r. ⌜ Said (now (line .entry)) 0 (explanationOf (whole (listsIn used (now («data» .entry)) (now (plan .entry)) (now (scal .entry)) (now (dual .entry))))) r (now (line .exit)) ⌝ }
@@ -145,7 +155,9 @@ fn explain_buffers(line: &mut [u8; ROOM], used: Used, data: &[u32], plan: &[u32]
     let p = used.plan;
     let s = used.scal;
     let m = used.dual;
-    explain_lists(line, &data[0..d], scale_in(&scal[0..s]), &plan[0..p], &dual[0..m])
+    let answered = explain_lists(line, &data[0..d], scale_in(&scal[0..s]), &plan[0..p], &dual[0..m]);
+    let scaled = say_scale_taken(line, answered, &scal[0..s]);
+    say(line, scaled, b"\n")
 }
 
 // The answer to a whole text, and what it means. A Frame comes before every other refusal.
@@ -160,7 +172,8 @@ pub fn explain_text(input: &[u8]) -> Explanation
     match read_text(input, &mut data, &mut plan, &mut scal, &mut dual) {
         Reading::FrameAt(number) => {
             let frame = Certificate::Withheld(Refusal::Frame(number));
-            let used = say_answer(&mut bytes, &data[0..0], 1, &plan[0..0], &dual[0..0], frame);
+            let answered = say_answer(&mut bytes, &data[0..0], 1, &plan[0..0], &dual[0..0], frame);
+            let used = say(&mut bytes, answered, b"\n");
             Explanation { bytes, used }
         }
         Reading::Whole(held) => {

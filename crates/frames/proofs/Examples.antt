@@ -11,11 +11,15 @@ use Rattle.model.specs.Tests.{unless, headFault, countFault, countsFault, lengt
 use Rattle.model.specs.Calls.{checkFault, costOf, certifyFault, gapOf, certify}
 use Rattle.texts.specs.Format.{digit, withDigit, digitsAt, numberAt, signed, count, oneMore, numbers, after, join, opensWith, wordOf, lineOf, addLine, withByte, lines, readLines, textOf}
 use Rattle.frames.specs.Format.{certifyText}
-use Rattle.frames.specs.Claims.{FirstCase, EmptyInput}
+use Rattle.frames.specs.Claims.{FirstCase, FirstCaseInThousandths, EmptyInput}
 
 pub first-case : FirstCase
 unfolding certifyText digit withDigit digitsAt numberAt signed count oneMore numbers after join opensWith wordOf lineOf addLine withByte lines readLines textOf certify certifyFault checkFault costOf gapOf dataFault headFault countsFault countFault lengthFault entriesFault entryFault storageFault plantStorageFault planFault scaleFault planLengthFault rowsFault rowFault costFault dualFault multiplierCountFault multipliersFault multiplierFault columnsFault columnFault gapFault gap constants⁺ constants⁻ priced⁺ priced⁻ multiplier above below constant⁺ constant⁻ price cost equation familyOf rowBoxes columnBoxes tableBoxes placeOf dataLength read sum largest upto orElse unless limit
 first-case = refl
+
+pub first-case-in-thousandths : FirstCaseInThousandths
+unfolding certifyText digit withDigit digitsAt numberAt signed count oneMore numbers after join opensWith wordOf lineOf addLine withByte lines readLines textOf certify certifyFault checkFault costOf gapOf dataFault headFault countsFault countFault lengthFault entriesFault entryFault storageFault plantStorageFault planFault scaleFault planLengthFault rowsFault rowFault costFault dualFault multiplierCountFault multipliersFault multiplierFault columnsFault columnFault gapFault gap constants⁺ constants⁻ priced⁺ priced⁻ multiplier above below constant⁺ constant⁻ price cost equation familyOf rowBoxes columnBoxes tableBoxes placeOf dataLength read sum largest upto orElse unless limit
+first-case-in-thousandths = refl
 
 pub empty-input : EmptyInput
 unfolding certifyText textOf lines readLines certify certifyFault checkFault dataFault headFault orElse unless

@@ -1,4 +1,4 @@
--- What certify answers to a text (document 01, "The certify program"). The text's format is texts/specs/Format.antt.
+-- What certify answers to a text (document 01, "The certify program"; document 02 (v)). The text's format is texts/specs/Format.antt.
 use mathlib.Core.List.{List}
 use Prim.Native.Nat.{ℕ}
 use lib.ListN.{getD}
@@ -9,9 +9,13 @@ use Rattle.model.specs.Calls.{certify}
 use Rattle.model.specs.Rival.{Binds}
 use Rattle.texts.specs.Format.{Text, frameAt, whole, textOf}
 
--- N, which is 1 without a SCAL line
+-- N without a SCAL line: plans come in thousandths (request (v))
+abbrev pub defaultScale : ℕ
+defaultScale = 1000
+
+-- N: the number of the SCAL line, whatever it is, or the default where there is no such line
 abbrev pub scaleIn : List ℕ → ℕ
-scaleIn xs = getD xs 0 1
+scaleIn xs = getD xs 0 defaultScale
 
 -- any Frame comes before every other refusal
 abbrev pub certificateOf : Text → Certificate

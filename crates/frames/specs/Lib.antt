@@ -1,2 +1,3 @@
 pub mod Claims
+pub mod Earlier
 pub mod Format

@@ -14,12 +14,15 @@ ghost use Rattle.texts.specs.Buffers.{Room, Within, listsIn};
 ghost use Rattle.texts.specs.Format.{whole};
 ghost use Rattle.frames.specs.Format.{scaleIn, certificateOf, certifyText, BindsText};
 
-// N, which is 1 without a SCAL line.
+// N without a SCAL line: plans come in thousandths. The library's calls have no default; they are handed their N.
+const DEFAULT_SCALE: u32 = 1000;
+
+// N: the number of the SCAL line, whatever it is, or the default where there is no such line.
 pub fn scale_in(scal: &[u32]) -> u32
     ensures { λ r. ⌜ r ≡ scaleIn (now (scal .entry)) ⌝ }
 {
     if scal.len() == 0 {
-        return 1;
+        return DEFAULT_SCALE;
     }
     scal[0]
 }

@@ -45,14 +45,14 @@ module _ {A : Type 0} (value : ℕ → A) (w : ℕ) (l : List ℕ) where
   after-length xs none n zs h e = absurd (Option·none-ne-some _ e)
 
   -- n numbers on the line, behind those of xs
-  record Joins (most : ℕ) (xs zs : List A) : Type 0 where
-    n : ℕ
-    one : 1 ≤ n
-    line : Counted (length l) w n
-    length-is : length zs ≡ length xs + n
-    fits : length zs ≤ most
+  pub record Joins (most : ℕ) (xs zs : List A) : Type 0 where
+    pub n : ℕ
+    pub one : 1 ≤ n
+    pub line : Counted (length l) w n
+    pub length-is : length zs ≡ length xs + n
+    pub fits : length zs ≤ most
 
-  joins : (most : ℕ) (xs zs : List A) → join value w most xs l ≡ some zs → Joins most xs zs
+  pub joins : (most : ℕ) (xs zs : List A) → join value w most xs l ≡ some zs → Joins most xs zs
   unfolding join
   joins most xs zs e = go (leb 1 c) (leb (length xs + c) most) refl refl e
     where

@@ -2,7 +2,7 @@
 use mathlib.Core.Bool.{Bool, true, false, cond}
 use mathlib.Core.List.{List}
 use mathlib.Core.Logic.{⊎-elim}
-use mathlib.Core.Path.{_≡_, refl, ap, _∙_}
+use mathlib.Core.Path.{_≡_, refl, sym, ap, _∙_}
 use Prim.Native.Nat.{ℕ, zero, suc, _+_, _*_, _-_, _^_, _≤_, _<_}
 use native.Mathlib.Nat.{pow-suc, pow-le-pow-right, eq-or-lt-of-le, le-of-suc-le-suc}
 use native.Mathlib.Numerals.{add-one}
@@ -92,16 +92,30 @@ pub digits-more : (l : List ℕ) (at i v d : ℕ) → digitsAt l at i ≡ Value 
 unfolding digitsAt withDigit
 digits-more l at i v d e f = rw (add-one, e, f)
 
-pub digits-stop : (l : List ℕ) (at i v w : ℕ) → i < w → digitsAt l at i ≡ Value v → digit (getD l (at + i) 0) ≡ NoNumber → NoNumber ≡ digitsAt l at w
+with-none : (x : Number) → NoNumber ≡ withDigit x NoNumber
+unfolding withDigit
+with-none (Value v) = refl
+with-none NoNumber = refl
+
+-- where one byte is no digit there is no number
+pub digits-stop : (l : List ℕ) (at i w : ℕ) → i < w → digit (getD l (at + i) 0) ≡ NoNumber → NoNumber ≡ digitsAt l at w
 unfolding digitsAt withDigit
-digits-stop l at i v zero h e f = absurd (omega arith)
-digits-stop l at i v (suc w) h e f = ⊎-elim (λ (p : i ≡ w). rw (← p, e, f)) (λ (p : i < w). rw (← digits-stop l at i v w p e f)) (eq-or-lt-of-le (le-of-suc-le-suc h))
+digits-stop l at i zero h f = absurd (omega arith)
+digits-stop l at i (suc w) h f = ⊎-elim (λ (p : i ≡ w). rw (← p, f) (with-none (digitsAt l at i))) (λ (p : i < w). rw (← digits-stop l at i w p f)) (eq-or-lt-of-le (le-of-suc-le-suc h))
 
 -- What the code of `number_at` finds
 
 pub number-spaced : (l : List ℕ) (at w : ℕ) → getD l at 0 ≡ space → numberAt l at w ≡ digitsAt l (at + 1) w
 unfolding numberAt
 number-spaced l at w e = rw (eq-eqb _ _ e)
+
+pub number-stop : (l : List ℕ) (at i w : ℕ) → i < w → digit (getD l (at + 1 + i) 0) ≡ NoNumber → numberAt l at w ≡ NoNumber
+unfolding numberAt
+number-stop l at i w h f = go (eqb (getD l at 0) space)
+  where
+    go : (b : Bool) → cond b (digitsAt l (at + 1) w) NoNumber ≡ NoNumber
+    go true = sym (digits-stop l (at + 1) i w h f)
+    go false = refl
 
 pub number-unspaced : (l : List ℕ) (at w : ℕ) → (getD l at 0 ≡ space → ⊥) → NoNumber ≡ numberAt l at w
 unfolding numberAt

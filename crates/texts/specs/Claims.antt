@@ -1,4 +1,5 @@
 -- What is proved of the definition, as statements; the proofs are in proofs/.
+use mathlib.Core.Bool.{Bool, false, _||_}
 use mathlib.Core.List.{List, [], _∷_, _++_}
 use mathlib.Core.Path.{_≡_}
 use Prim.Native.Char.{code}
@@ -6,7 +7,7 @@ use Prim.Native.Nat.{ℕ, zero, suc, _+_, _*_, _≤_}
 use Prim.Native.String.{String, [] as none, _∷_ as _then_}
 use lib.IntN.{pos, negsuc}
 use lib.ListN.{take}
-use Rattle.texts.specs.Format.{wordLength, digits, dualDigits, mostOnLine, mostData, mostPlan, mostScal, mostDual, Text, frameAt, whole, textOf}
+use Rattle.texts.specs.Format.{wordLength, scalWord, digits, dualDigits, mostOnLine, mostData, mostPlan, mostScal, mostDual, opensWith, Lines, nothing, unended, line, lines, Text, frameAt, whole, textOf}
 
 -- the bytes of a text in ASCII
 abbrev pub bytes : String → List ℕ
@@ -59,3 +60,12 @@ mostLine = wordLength + mostOnLine * (1 + dualDigits) + 1
 -- what stands behind the first 176,142 + 1,093 bytes decides nothing, so a program may keep a buffer of fixed size
 abbrev pub FixedBuffer : Type 0
 FixedBuffer = (size : ℕ) → mostGood + mostLine ≤ size → (input : List ℕ) → textOf (take size input) ≡ textOf input
+
+-- whether one of the lines opens with SCAL. A last line without a line feed is a Frame whatever it opens with, and counts as none
+abbrev pub scalAmong : Lines → Bool
+scalAmong nothing = false
+scalAmong unended = false
+scalAmong (line l rest) = opensWith scalWord l || scalAmong rest
+
+abbrev pub hasScal : List ℕ → Bool
+hasScal input = scalAmong (lines input)

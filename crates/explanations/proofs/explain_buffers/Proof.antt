@@ -1,5 +1,5 @@
 use native.Mathlib.Nat.{sub-zero}
-use Rattle.writer.proofs.Laws.{said-same}
+use Rattle.writer.proofs.Laws.{said-same, said-joined}
 use Rattle.explanations.specs.Explained.{explanationOf}
 use borrow.Author.Needs.{needs}
 use Rattle.explanations.proofs.explain_buffers.Statement.{statement}
@@ -47,9 +47,31 @@ part-explain-lists-end-3 c = search needs
 explain-lists-requires : tie.Need-explain-lists-requires
 explain-lists-requires c κs = search needs
 
+sub-say-scale-taken : tie.Need-sub-say-scale-taken
+sub-say-scale-taken c = search needs
+
+part-say-scale-taken-start : tie.Need-part-say-scale-taken-start
+part-say-scale-taken-start c = search needs
+
+part-say-scale-taken-end : tie.Need-part-say-scale-taken-end
+part-say-scale-taken-end c = search needs
+
+say-scale-taken-requires : tie.Need-say-scale-taken-requires
+say-scale-taken-requires c κs = search needs
+
+slice-aggregate-say : tie.Need-slice-aggregate-say
+slice-aggregate-say c = search needs
+
+say-requires : tie.Need-say-requires
+say-requires c κs = search needs
+
 returns : tie.Need-returns
 unfolding explanationOf
-returns c = said-same (simp (c .before .before .before .scale-in .ensures, sub-zero)) (c .explain-lists .ensures)
+returns c =
+    said-same (simp (c .before .before .before .before .before .before .before .before .before .scale-in .ensures, sub-zero))
+    (said-joined (c .before .before .before .before .before .before .explain-lists .ensures)
+    (said-joined (c .before .before .before .say-scale-taken .ensures)
+    (c .say .ensures)))
 
 pub explain-buffers-spec : {M : Type 1} → statement M
 explain-buffers-spec =
@@ -69,4 +91,10 @@ explain-buffers-spec =
     part-explain-lists-start-3
     part-explain-lists-end-3
     explain-lists-requires
+    sub-say-scale-taken
+    part-say-scale-taken-start
+    part-say-scale-taken-end
+    say-scale-taken-requires
+    slice-aggregate-say
+    say-requires
     returns)

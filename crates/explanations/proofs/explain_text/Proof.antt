@@ -1,6 +1,7 @@
 use mathlib.Core.Path.{ap}
 use Rattle.texts.specs.Buffers.{textIn}
 use Rattle.texts.proofs.BufferLaws.{room-new, room-kept}
+use Rattle.writer.proofs.Laws.{said-joined}
 use Rattle.explanations.specs.Explained.{explanationOf, explainText}
 use Rattle.explanations.proofs.Laws.{explains}
 use borrow.Author.Needs.{needs}
@@ -55,6 +56,12 @@ part-say-answer-end-3 c = search needs
 say-answer-requires : tie.Need-say-answer-requires
 say-answer-requires c κs = search needs
 
+slice-aggregate-say : tie.Need-slice-aggregate-say
+slice-aggregate-say c = search needs
+
+say-requires : tie.Need-say-requires
+say-requires c κs = search needs
+
 enum-known-held : tie.Need-enum-known-held
 enum-known-held c = search needs
 
@@ -79,8 +86,8 @@ explain-buffers-requires c κs =
 returns : tie.Need-returns
 unfolding textIn explanationOf explainText
 returns c =
-    explains (c .before .before .before .before .before .before .before .before .before .before .before .before .before .before .before .before .before .before .before .before .before .args .input .now) (c .say-answer .ensures)
-    (ap explanationOf (rw (c .before .before .before .before .before .before .before .before .before .number .given .1) at (c .before .before .before .before .before .before .before .before .before .before .before .before .before .before .before .read-text .ensures .0)))
+    explains (c .before .before .before .before .before .before .before .before .before .before .before .before .before .before .before .before .before .before .before .before .before .before .before .before .args .input .now) (said-joined (c .before .before .before .say-answer .ensures) (c .say .ensures))
+    (ap explanationOf (rw (c .before .before .before .before .before .before .before .before .before .before .before .before .number .given .1) at (c .before .before .before .before .before .before .before .before .before .before .before .before .before .before .before .before .before .before .read-text .ensures .0)))
 
 returns-2 : tie.Need-returns-2
 unfolding textIn explainText
@@ -108,6 +115,8 @@ explain-text-spec =
     part-say-answer-start-3
     part-say-answer-end-3
     say-answer-requires
+    slice-aggregate-say
+    say-requires
     enum-known-held
     slice-aggregate-explain-buffers
     slice-aggregate-explain-buffers-2

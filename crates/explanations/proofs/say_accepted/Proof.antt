@@ -16,12 +16,6 @@ slice-aggregate-say-with-2 c = search needs
 say-with-requires-2 : tie.Need-say-with-requires-2
 say-with-requires-2 c κs = search needs
 
-slice-aggregate-say-with-3 : tie.Need-slice-aggregate-say-with-3
-slice-aggregate-say-with-3 c = search needs
-
-say-with-requires-3 : tie.Need-say-with-requires-3
-say-with-requires-3 c κs = search needs
-
 slice-aggregate-say : tie.Need-slice-aggregate-say
 slice-aggregate-say c = search needs
 
@@ -31,10 +25,9 @@ say-requires c κs = search needs
 returns : tie.Need-returns
 unfolding acceptedWords
 returns c =
-    said-joined (c .before .before .before .before .before .before .before .before .before .say-with .ensures)
-    (said-joined (c .before .before .before .before .before .before .say-with2 .ensures)
-    (said-joined (c .before .before .before .say-with3 .ensures)
-    (c .say .ensures)))
+    said-joined (c .before .before .before .before .before .before .say-with .ensures)
+    (said-joined (c .before .before .before .say-with2 .ensures)
+    (c .say .ensures))
 
 pub say-accepted-spec : {M : Type 1} → statement M
 say-accepted-spec =
@@ -44,8 +37,6 @@ say-accepted-spec =
     say-with-requires
     slice-aggregate-say-with-2
     say-with-requires-2
-    slice-aggregate-say-with-3
-    say-with-requires-3
     slice-aggregate-say
     say-requires
     returns)

@@ -25,20 +25,13 @@ say-requires c κs = search needs
 say-body-requires : tie.Need-say-body-requires
 say-body-requires c κs = search needs
 
-slice-aggregate-say-2 : tie.Need-slice-aggregate-say-2
-slice-aggregate-say-2 c = search needs
-
-say-requires-2 : tie.Need-say-requires-2
-say-requires-2 c κs = search needs
-
 returns : tie.Need-returns
 unfolding refusedWords
 returns c =
-    rw (← c .before .before .before .before .before .before .before .before .before .before .before .before .code-of .ensures)
-    (said-joined (c .before .before .before .before .before .before .before .before .say-name .ensures)
-    (said-joined (c .before .before .before .before .before .say .ensures)
-    (said-joined (c .before .before .before .say-body .ensures)
-    (c .say2 .ensures))))
+    rw (← c .before .before .before .before .before .before .before .before .before .code-of .ensures)
+    (said-joined (c .before .before .before .before .before .say-name .ensures)
+    (said-joined (c .before .before .say .ensures)
+    (c .say-body .ensures)))
 
 pub say-refusal-spec : {M : Type 1} → statement M
 say-refusal-spec =
@@ -51,6 +44,4 @@ say-refusal-spec =
     slice-aggregate-say
     say-requires
     say-body-requires
-    slice-aggregate-say-2
-    say-requires-2
     returns)

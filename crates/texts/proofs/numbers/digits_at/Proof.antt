@@ -36,7 +36,7 @@ enum-told c = search needs
 returns : tie.Need-returns Inv-loop μ-loop
 returns c =
     let l = c .before .before .before .before .before .loop in
-    digits-stop _ _ _ _ _ (search needs) (l .inv .1) (sym (c .before .before .digit-of .ensures) ∙ c .enum-told .given .1)
+    digits-stop _ _ _ _ (search needs) (sym (c .before .before .digit-of .ensures) ∙ c .enum-told .given .1)
 
 mul-v : tie.Need-mul-v Inv-loop μ-loop
 mul-v c =
