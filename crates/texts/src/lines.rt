@@ -161,7 +161,7 @@ pub fn read_line(line: &[u8], used: Used, data: &mut [u32], plan: &mut [u32], sc
         return Line::NoLine;
     }
     if most_of(word) - used_of(word, used) < n {
-        return Line::NoLine;
+        return Line::NoLine; // more numbers than may come, a second SCAL line among them
     }
     let mut filled = used;
     let mut i = 0;
