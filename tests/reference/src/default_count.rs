@@ -1,6 +1,5 @@
-//! What a run of texts had without a SCAL line, which are read at the default scale. Where a
-//! count is above 0, another default would show in one of these texts, or in none of their
-//! Frames.
+//! What a run of texts had without a SCAL line, which are read at the default scale: how many
+//! were accepted, and by which refusals the others were refused.
 
 use crate::generator::frames::has_scale_line;
 use crate::met::{absent, Met};
