@@ -1,6 +1,7 @@
 //! The proved programs certify and explain against the second implementation.
 
 use epm_reference::coverage::text;
+use epm_reference::default_count::DefaultCount;
 use epm_reference::explain;
 use epm_reference::generator::anything::{any_contents, steep};
 use epm_reference::generator::bytes::{one_byte_damages, Labelled};
@@ -10,7 +11,7 @@ use epm_reference::generator::large::{larger_than_any_buffer, largest_accepted, 
 use epm_reference::generator::random::Random;
 use epm_reference::generator::stations::stations;
 use epm_reference::generator::{
-    case, extremes, multiplier_edges, products, range_edges, twice_damaged_case,
+    case, extremes, multiplier_edges, products, range_edges, thousandths, twice_damaged_case,
 };
 use epm_reference::met::{absent, Met};
 use epm_reference::program::{answer, answer_line, read_lines};
@@ -107,6 +108,8 @@ pub struct ProgramAgreement {
     pub met: Met,
     /// Refusals that explain said in the words expected.
     pub explained: Met,
+    /// Answers to inputs without a SCAL line.
+    pub defaults: DefaultCount,
     pub differences: Vec<String>,
 }
 
@@ -114,7 +117,8 @@ pub struct ProgramAgreement {
 /// together at random; cases with two faults, of any content and with steep
 /// multipliers; entries and multipliers at the ends of their ranges; the cases at
 /// the limit of the sums, and of one seed the products about their edges; the ten
-/// stations, and one of them byte by byte; the largest inputs and larger ones.
+/// stations, and one of them byte by byte; the largest inputs and larger ones; texts
+/// without a SCAL line, and those whose SCAL line is worked out by hand.
 pub fn measure_program(inputs: u64) -> ProgramAgreement {
     let mut texts: Vec<Labelled> = vec![];
     for seed in 0..inputs {
@@ -147,14 +151,36 @@ pub fn measure_program(inputs: u64) -> ProgramAgreement {
     for station in stations() {
         texts.push(("one-plant station".to_string(), station.text()));
     }
-    // The fifth case has all four words.
+    // The fifth case has a scale that is not 1.
     texts.extend(one_byte_damages(&stations()[4].text()));
     texts.extend(larger_than_any_buffer());
     texts.extend(of_lengths(&[BUFFER - 1, BUFFER, BUFFER + 1, 2 * BUFFER]));
     texts.extend(largest_accepted());
+    texts.extend(without_scale_lines(&texts));
+    let mut random = Random::new(inputs);
+    texts.extend(thousandths::texts_without_scale_line(
+        &mut random,
+        inputs / 4,
+    ));
+    for worked in thousandths::all() {
+        texts.push(("scale worked out by hand".to_string(), worked.text));
+    }
     let mut agreement = ProgramAgreement::default();
     agreement.compare(&texts);
     agreement
+}
+
+/// Of every tenth text that has a SCAL line, the text without it. They come from all over
+/// the list.
+fn without_scale_lines(texts: &[Labelled]) -> Vec<Labelled> {
+    let with = texts
+        .iter()
+        .filter(|(_, text)| frames::has_scale_line(text));
+    let without = |(_, text): &Labelled| {
+        let label = "its SCAL line left out".to_string();
+        (label, frames::without_scale_line(text))
+    };
+    with.step_by(10).map(without).collect()
 }
 
 /// A case as plain lines, where it is small enough for the programs.
@@ -192,6 +218,7 @@ impl ProgramAgreement {
         self.hold_explain(label, input, &printed);
         let explained = self.differences.len() == differences;
         let expected = answer(input);
+        self.defaults.count(input, expected);
         match expected {
             Ok(_) => self.accepted += 1,
             Err(refusal) => {
@@ -250,6 +277,7 @@ impl ProgramAgreement {
             (self.accepted, "an accepted input"),
             (self.larger_than_buffer, "an input larger than the buffer"),
         ]));
+        missing.extend(self.defaults.missing());
         failures.extend(missing.iter().map(|word| format!("not met: {word}")));
         let mut unsaid = self.explained.missing(&refusals());
         unsaid.extend(self.explained.missing_places(&PLACED));
@@ -269,6 +297,7 @@ impl fmt::Display for ProgramAgreement {
             self.differences.len()
         )?;
         write!(f, "{}", self.met.table(&refusals()))?;
+        write!(f, "{}", self.defaults)?;
         writeln!(f, "explained: {}", self.explained.line(&refusals()))?;
         let named = [
             (BROKEN, "families"),

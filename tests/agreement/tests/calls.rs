@@ -7,6 +7,7 @@ use epm_reference::columns::ColumnLayout;
 use epm_reference::data::DataLayout;
 use epm_reference::generator::draft::Case;
 use epm_reference::generator::random::Random;
+use epm_reference::generator::stations::stations;
 use epm_reference::generator::{full_size_case, shape, sound_case, LARGEST_COUNTS};
 use epm_reference::rows::RowLayout;
 use epm_reference::shape::Shape;
@@ -252,6 +253,36 @@ fn the_board_at_its_ends() {
                 }
             }
         }
+    }
+}
+
+/// Request (v) gives the programs a default and not the calls: 0 is no scale that is left out,
+/// and N is taken as it is handed over.
+#[test]
+fn the_calls_have_no_default_scale() {
+    let refused = Refusal::at(4, 0);
+    let mut random = Random::new(12);
+    for seed in 0..20 {
+        let case = sound_case(shape(&mut random), seed);
+        let (data, plan) = (&case.data, &case.plan);
+        assert_eq!(check(data, 0, plan), Err(refused), "seed {seed}");
+        let certified = certify(data, 0, plan, &case.multipliers);
+        assert_eq!(certified, Err(refused), "seed {seed}");
+        let mut board = case.board.clone();
+        let posted = post(data, 0, plan, case.year, &mut board, case.start);
+        assert_eq!(posted, Err(refused), "seed {seed}");
+        assert_eq!(board, case.board, "seed {seed}");
+    }
+    let [station, ..] = stations();
+    let megawatts = station.case();
+    let kilowatts: Vec<u32> = megawatts.plan.iter().map(|entry| 1000 * entry).collect();
+    for (scale, plan, answer) in [
+        (1, &megawatts.plan, Ok((40_000_000_000, 0))),
+        (1000, &kilowatts, Ok((40_000_000_000_000, 0))),
+        (0, &kilowatts, Err(refused)),
+    ] {
+        let certified = certify(&megawatts.data, scale, plan, &megawatts.multipliers);
+        assert_eq!(certified, answer, "N {scale}");
     }
 }
 

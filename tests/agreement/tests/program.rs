@@ -135,8 +135,9 @@ fn an_input_that_breaks_off_is_not_answered() {
 fn an_empty_input_is_refused_by_its_length() {
     assert_eq!(printed(Program::Certify, &[]), "R 2 7\n");
     let words = "Data length: DATA has 0 numbers and must have 7";
+    let scale = "the scale N is 1000, the default where there is no SCAL line";
     let lines = printed(Program::Explain, &[]);
-    assert_eq!(lines, format!("R 2 7\n{words}\n"));
+    assert_eq!(lines, format!("R 2 7\n{words}; {scale}\n"));
 }
 
 /// What a program prints for an input of which each read gives one piece: a socket

@@ -4,10 +4,11 @@
 
 use crate::cable_count::CableCount;
 use crate::calls::{certify, check, post};
+use crate::default_count::DefaultCount;
 use crate::generator::draft::Case;
 use crate::generator::frames;
 use crate::generator::random::Random;
-use crate::generator::{case, multiplier_edges, products, range_edges};
+use crate::generator::{case, multiplier_edges, products, range_edges, thousandths};
 use crate::met::{absent, Met};
 use crate::product_count::ProductCount;
 use crate::program;
@@ -36,12 +37,13 @@ pub struct Coverage {
     pub cables: CableCount,
     pub seasons: SeasonCount,
     pub products: ProductCount,
+    pub defaults: DefaultCount,
 }
 
 /// Runs the inputs of seeds 0..inputs through all calls and, where they are
-/// small enough, through the program as well; and of one seed in two hundred the
+/// small enough, through the program as well; of one seed in two hundred the
 /// entries and multipliers at the ends of their ranges and the products about their
-/// edges.
+/// edges; and through the program a tenth as many texts without a SCAL line.
 pub fn measure(inputs: u64) -> Coverage {
     let mut coverage = Coverage::default();
     for seed in 0..inputs {
@@ -56,6 +58,11 @@ pub fn measure(inputs: u64) -> Coverage {
         edges
             .iter()
             .for_each(|edge| coverage.count_case(&edge.case));
+    }
+    let mut random = Random::new(inputs);
+    for (_, text) in thousandths::texts_without_scale_line(&mut random, inputs / 10) {
+        coverage.texts += 1;
+        coverage.defaults.count(&text, program::answer(&text));
     }
     coverage
 }
@@ -99,7 +106,9 @@ impl Coverage {
     fn count_text(&mut self, seed: u64, case: &Case) {
         let Some(text) = text(seed, case) else { return };
         self.texts += 1;
-        if let Err(refusal) = program::answer(&text.bytes) {
+        let answer = program::answer(&text.bytes);
+        self.defaults.count(&text.bytes, answer);
+        if let Err(refusal) = answer {
             if refusal.number == FRAME {
                 self.met.count(&case.data, refusal);
             }
@@ -115,6 +124,7 @@ impl Coverage {
         missing.extend(self.cables.missing());
         missing.extend(self.seasons.missing());
         missing.extend(self.products.missing());
+        missing.extend(self.defaults.missing());
         missing.extend(absent(&[
             (self.accepted, "accepted"),
             (self.bounds_above_zero, "bound above 0"),
@@ -140,7 +150,7 @@ impl fmt::Display for Coverage {
         writeln!(f, "accepted by all calls {}", self.accepted)?;
         writeln!(f, "certificates above 0 {}", self.bounds_above_zero)?;
         write!(f, "{}{}", self.storage, self.cables)?;
-        write!(f, "{}{}", self.seasons, self.products)?;
+        write!(f, "{}{}{}", self.seasons, self.products, self.defaults)?;
         write!(f, "refusals met:\n{}", self.met.table(&refusals()))
     }
 }

@@ -59,7 +59,8 @@ fn grown(mut input: Input) -> Case {
     input.plan.resize(ColumnLayout::new(shape).count(), 0);
     input.multipliers.resize(RowLayout::new(shape).count(), 0);
     Case {
-        scale: input.scale(),
+        // At that commit N was 1 without a SCAL line and now it is 1000, so each has the line.
+        scale: input.scale.expect("a SCAL line"),
         data: input.data,
         plan: input.plan,
         multipliers: input.multipliers,

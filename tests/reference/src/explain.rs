@@ -31,11 +31,29 @@ fn sentence(read: &Input, answer: Result<(u64, u64), Refusal>) -> String {
     match answer {
         Ok((cost, gap)) => format!(
             "Accepted: the plan costs {cost} and no other plan costs less by more than {gap}, \
-             in millionths of a money unit times the scale {}\n",
-            read.scale()
+             in millionths of a money unit times N{}\n",
+            scale_words(read)
         ),
-        Err(refusal) => format!("{}: {}\n", refusal.word(), body(read, refusal)),
+        Err(refusal) => format!(
+            "{}: {}{}\n",
+            refusal.word(),
+            body(read, refusal),
+            match refusal.number {
+                FRAME => String::new(), // no scale was taken
+                _ => scale_words(read),
+            }
+        ),
     }
+}
+
+/// The scale that was taken, and where it comes from: a plan in MW that was read in
+/// thousandths shows by this.
+fn scale_words(read: &Input) -> String {
+    let source = match read.scale {
+        Some(_) => "from the SCAL line",
+        None => "the default where there is no SCAL line",
+    };
+    format!("; the scale N is {}, {source}", read.scale())
 }
 
 /// The place of a refusal and its figures.

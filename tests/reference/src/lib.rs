@@ -11,8 +11,9 @@
 //! `calls`, `program` and `rival`; `explain` says an answer in words. The inputs for
 //! the tests come from `generator`; `optimum` works out the least cost of small ones,
 //! `coverage` counts which answers the inputs reach, `storage_count` what they have of
-//! batteries, `cable_count` of lines between zones, `season_count` of links by season and
-//! `product_count` of products, `rival_count` the rivals that certificates are held to.
+//! batteries, `cable_count` of lines between zones, `season_count` of links by season,
+//! `product_count` of products and `default_count` of texts without a SCAL line,
+//! `rival_count` the rivals that certificates are held to.
 //! `earlier` has certificates that were accepted before request (iv).
 
 pub mod cable_count;
@@ -20,6 +21,7 @@ pub mod calls;
 pub mod columns;
 pub mod coverage;
 pub mod data;
+pub mod default_count;
 pub mod earlier;
 pub mod explain;
 pub mod fraction;

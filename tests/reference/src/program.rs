@@ -9,8 +9,9 @@ const DATA_NUMBERS: usize = 4096;
 const PLAN_NUMBERS: usize = 2048;
 const DUAL_NUMBERS: usize = 4096;
 
-/// N without a SCAL line.
-const SCALE_WHEN_ABSENT: u32 = 1;
+/// N without a SCAL line: request (v), "plans come in thousandths". The program alone has it;
+/// the calls are handed their N.
+const SCALE_WHEN_ABSENT: u32 = 1000;
 
 /// What the lines of an input join to.
 #[derive(Clone, Debug, Default, PartialEq, Eq)]
@@ -57,6 +58,7 @@ pub fn read_lines(input: &[u8]) -> Result<Input, Refusal> {
 }
 
 impl Input {
+    /// N as the SCAL line has it, in range or not; only where there is none, the default.
     pub fn scale(&self) -> u32 {
         self.scale.unwrap_or(SCALE_WHEN_ABSENT)
     }

@@ -5,8 +5,9 @@ use epm_reference::coverage::text;
 use epm_reference::data::{DataLayout, Table};
 use epm_reference::explain;
 use epm_reference::generator::draft::{Case, Draft};
-use epm_reference::generator::frames::{join, plain_lines};
+use epm_reference::generator::frames::{join, plain_lines, without_scale_line};
 use epm_reference::generator::stations::stations;
+use epm_reference::generator::thousandths::station_text;
 use epm_reference::generator::{case, sound_case};
 use epm_reference::program::{read_lines, Input};
 use epm_reference::rows::RowLayout;
@@ -23,12 +24,23 @@ fn explained(text: &[u8]) -> String {
     String::from_utf8(explain(text)).expect("ASCII")
 }
 
-/// The two lines for a case.
-fn said(case: &Case) -> String {
-    explained(&join(&plain_lines(case, 64)))
+/// How every sentence ends that is not of a Frame, where the scale was read from a SCAL line.
+fn from_scal(scale: u32) -> String {
+    format!("; the scale N is {scale}, from the SCAL line\n")
 }
 
-/// The first station with a change.
+/// How it ends where there is no SCAL line.
+const BY_DEFAULT: &str = "; the scale N is 1000, the default where there is no SCAL line\n";
+
+/// The two lines for a case without how they end, which is the case's scale: its SCAL line is
+/// written.
+fn said(case: &Case) -> String {
+    let lines = explained(&join(&plain_lines(case, 64)));
+    let before = lines.strip_suffix(&from_scal(case.scale));
+    before.expect(&lines).to_string()
+}
+
+/// The first station with a change, said as above.
 fn station(change: impl FnOnce(&mut Case)) -> String {
     let mut case = stations()[0].case();
     change(&mut case);
@@ -67,17 +79,17 @@ fn from<'a>(lines: &'a str, name: &str) -> &'a str {
 #[test]
 fn the_refused_stations() {
     let lines = stations().map(|station| explained(&station.text()));
-    assert_eq!(lines[3], "R 12 3\nUnderpriced: column 3, gen, year 1, plant 1, season 1, day 1, hour 1: its terms m*a come to 5000001000 above zero and 0 below, its price is 5000000000, so it is underpriced by 1000\n");
-    assert_eq!(lines[6], "R 7 0\nBroken: row 0, equation (14) demand balance, year 1, zone 1, season 1, day 1, hour 1: its positive terms come to 7999, its negative terms to 8000, and the two must be equal\n");
-    assert_eq!(lines[8], "R 7 4\nBroken: row 4, equation (22) output and reserve, year 1, plant 1, season 1, day 1, hour 1: its positive terms come to 10000, its negative terms to 11000, and the first must not be less\n");
-    assert_eq!(lines[9], "R 7 11\nBroken: row 11, equation (34) capacity balance, year 1, plant 1: its positive terms come to 11, its negative terms to 10, and the two must be equal\n");
+    assert_eq!(lines[3], "R 12 3\nUnderpriced: column 3, gen, year 1, plant 1, season 1, day 1, hour 1: its terms m*a come to 5000001000 above zero and 0 below, its price is 5000000000, so it is underpriced by 1000; the scale N is 1, from the SCAL line\n");
+    assert_eq!(lines[6], "R 7 0\nBroken: row 0, equation (14) demand balance, year 1, zone 1, season 1, day 1, hour 1: its positive terms come to 7999, its negative terms to 8000, and the two must be equal; the scale N is 1, from the SCAL line\n");
+    assert_eq!(lines[8], "R 7 4\nBroken: row 4, equation (22) output and reserve, year 1, plant 1, season 1, day 1, hour 1: its positive terms come to 10000, its negative terms to 11000, and the first must not be less; the scale N is 1, from the SCAL line\n");
+    assert_eq!(lines[9], "R 7 11\nBroken: row 11, equation (34) capacity balance, year 1, plant 1: its positive terms come to 11, its negative terms to 10, and the two must be equal; the scale N is 1, from the SCAL line\n");
 }
 
 #[test]
 fn the_accepted_stations() {
     let lines = stations().map(|station| explained(&station.text()));
-    assert_eq!(lines[0], "A 40000000000 0\nAccepted: the plan costs 40000000000 and no other plan costs less by more than 0, in millionths of a money unit times the scale 1\n");
-    assert_eq!(lines[4], "A 80000000000 0\nAccepted: the plan costs 80000000000 and no other plan costs less by more than 0, in millionths of a money unit times the scale 2\n");
+    assert_eq!(lines[0], "A 40000000000 0\nAccepted: the plan costs 40000000000 and no other plan costs less by more than 0, in millionths of a money unit times N; the scale N is 1, from the SCAL line\n");
+    assert_eq!(lines[4], "A 80000000000 0\nAccepted: the plan costs 80000000000 and no other plan costs less by more than 0, in millionths of a money unit times N; the scale N is 2, from the SCAL line\n");
     for (station, lines) in stations().iter().zip(lines) {
         let accepted = lines.contains("\nAccepted: ");
         assert_eq!(accepted, station.certified.is_ok(), "{lines}");
@@ -88,31 +100,27 @@ fn the_accepted_stations() {
 fn refusals_of_the_data() {
     assert_eq!(
         station(|case| case.data[0] = 9),
-        "R 1 0\nShape: entry 0 of DATA, the number of zones: it is 9 and must be from 1 to 8\n"
+        "R 1 0\nShape: entry 0 of DATA, the number of zones: it is 9 and must be from 1 to 8"
     );
     assert_eq!(
         station(|case| case.data[6] = 0),
-        "R 1 6\nShape: entry 6 of DATA, the number of years: it is 0 and must be from 1 to 10\n"
+        "R 1 6\nShape: entry 6 of DATA, the number of years: it is 0 and must be from 1 to 10"
     );
     assert_eq!(
         station(|case| case.data.truncate(54)),
-        "R 2 55\nData length: DATA has 54 numbers and must have 55\n"
-    );
-    assert_eq!(
-        explained(b""),
-        "R 2 7\nData length: DATA has 0 numbers and must have 7\n"
+        "R 2 55\nData length: DATA has 54 numbers and must have 55"
     );
     assert_eq!(
         station(|case| case.data[8] = 21),
-        "R 3 8\nEntry: entry 8 of DATA, V, year 1: it is 21 and must be from 1 to 20\n"
+        "R 3 8\nEntry: entry 8 of DATA, V, year 1: it is 21 and must be from 1 to 20"
     );
     assert_eq!(
         station(|case| case.data[49] = 2),
-        "R 3 49\nEntry: entry 49 of DATA, battery, plant 1: it is 2 and must be from 0 to 1\n"
+        "R 3 49\nEntry: entry 49 of DATA, battery, plant 1: it is 2 and must be from 0 to 1"
     );
     assert_eq!(
         station(|case| case.data[50] = 1001),
-        "R 3 50\nEntry: entry 50 of DATA, efficiency, plant 1: it is 1001 and must be from 0 to 1000\n"
+        "R 3 50\nEntry: entry 50 of DATA, efficiency, plant 1: it is 1001 and must be from 0 to 1000"
     );
     for (place, table) in [
         (52, "line limit"),
@@ -121,7 +129,7 @@ fn refusals_of_the_data() {
     ] {
         assert_eq!(
             station(|case| case.data[place] = 1),
-            format!("R 3 {place}\nEntry: entry {place} of DATA, {table}, zone 1, to zone 1: it is 1 and must be from 0 to 0\n")
+            format!("R 3 {place}\nEntry: entry {place} of DATA, {table}, zone 1, to zone 1: it is 1 and must be from 0 to 0")
         );
     }
     let sun_battery = station(|case| {
@@ -130,19 +138,21 @@ fn refusals_of_the_data() {
     });
     assert_eq!(
         sun_battery,
-        "R 16 0\nStorage: plant 1 is a battery and has VRE set\n"
+        "R 16 0\nStorage: plant 1 is a battery and has VRE set"
     );
 }
 
 #[test]
 fn refusals_of_the_plan() {
+    let mut case = stations()[0].case();
+    case.scale = 1001;
     assert_eq!(
-        station(|case| case.scale = 1001),
-        "R 4 0\nScale: N: it is 1001 and must be from 1 to 1000\n"
+        explained(&join(&plain_lines(&case, 64))),
+        "R 4 0\nScale: N: it is 1001 and must be from 1 to 1000; the scale N is 1001, from the SCAL line\n"
     );
     assert_eq!(
         station(|case| case.plan.truncate(9)),
-        "R 5 14\nPlan length: PLAN has 9 numbers and must have 14\n"
+        "R 5 14\nPlan length: PLAN has 9 numbers and must have 14"
     );
     // N·10^9·MaxCapital of the capital row; the entries before it are N times the station's.
     let off_scale = station(|case| {
@@ -151,7 +161,7 @@ fn refusals_of_the_plan() {
         case.plan[3] = 8_000;
         case.data[48] = u32::MAX;
     });
-    assert_eq!(off_scale, "R 6 17\nRow off scale: row 17, equation (64) capital: its positive terms come to more than 2^62 - 1, its negative terms to 0, and neither may be more than 2^62 - 1\n");
+    assert_eq!(off_scale, "R 6 17\nRow off scale: row 17, equation (64) capital: its positive terms come to more than 2^62 - 1, its negative terms to 0, and neither may be more than 2^62 - 1");
     // All demand unmet at scale 2, at 10^5·(2^32 − 1) a kW.
     let dear = station(|case| {
         case.scale = 2;
@@ -160,7 +170,7 @@ fn refusals_of_the_plan() {
     });
     assert_eq!(
         dear,
-        "R 8 0\nCost off scale: the cost is more than 2^62 - 1\n"
+        "R 8 0\nCost off scale: the cost is more than 2^62 - 1"
     );
 }
 
@@ -168,20 +178,20 @@ fn refusals_of_the_plan() {
 fn refusals_of_the_multipliers() {
     assert_eq!(
         station(|case| case.multipliers.truncate(19)),
-        "R 9 28\nMultiplier count: DUAL has 19 numbers and must have 28\n"
+        "R 9 28\nMultiplier count: DUAL has 19 numbers and must have 28"
     );
-    assert_eq!(station(|case| case.multipliers[0] = i64::MIN), "R 10 0\nMultiplier: row 0, equation (14) demand balance, year 1, zone 1, season 1, day 1, hour 1: it is -9223372036854775808 and must be from -2^40 to 2^40\n");
-    assert_eq!(station(|case| case.multipliers[11] = (1 << 40) + 1), "R 10 11\nMultiplier: row 11, equation (34) capacity balance, year 1, plant 1: it is 1099511627777 and must be from -2^40 to 2^40\n");
+    assert_eq!(station(|case| case.multipliers[0] = i64::MIN), "R 10 0\nMultiplier: row 0, equation (14) demand balance, year 1, zone 1, season 1, day 1, hour 1: it is -9223372036854775808 and must be from -2^40 to 2^40");
+    assert_eq!(station(|case| case.multipliers[11] = (1 << 40) + 1), "R 10 11\nMultiplier: row 11, equation (34) capacity balance, year 1, plant 1: it is 1099511627777 and must be from -2^40 to 2^40");
     assert_eq!(
         station(|case| case.multipliers[17] = -1),
-        "R 10 17\nMultiplier: row 17, equation (64) capital: it is -1 and must be from 0 to 2^40\n"
+        "R 10 17\nMultiplier: row 17, equation (64) capital: it is -1 and must be from 0 to 2^40"
     );
     // Availability·Dur = 8,784,000 times 2^40.
     let off_scale = station(|case| {
         case.data[9] = 8784;
         case.multipliers[9] = 1 << 40;
     });
-    assert_eq!(off_scale, "R 11 0\nColumn off scale: column 0, cap, year 1, plant 1: its terms m*a come to more than 2^62 - 1 above zero and 0 below, its price is 0, and neither sum of terms may be more than 2^62 - 1\n");
+    assert_eq!(off_scale, "R 11 0\nColumn off scale: column 0, cap, year 1, plant 1: its terms m*a come to more than 2^62 - 1 above zero and 0 below, its price is 0, and neither sum of terms may be more than 2^62 - 1");
     // 10^4·10^9·MaxCapital; no plant is a candidate, so no column has the capital row.
     let far = station(|case| {
         case.data[48] = 1_000_000;
@@ -189,7 +199,7 @@ fn refusals_of_the_multipliers() {
     });
     assert_eq!(
         far,
-        "R 13 0\nGap off scale: a sum of the terms N*m*k is more than 2^62 - 1\n"
+        "R 13 0\nGap off scale: a sum of the terms N*m*k is more than 2^62 - 1"
     );
 }
 
@@ -197,7 +207,35 @@ fn refusals_of_the_multipliers() {
 fn a_frame_is_told_by_its_line() {
     let mut text = stations()[0].text();
     text.extend(b"DATA\n");
-    assert_eq!(explained(&text), "R 15 4\nFrame: line 4 of the input is not a line of DATA, PLAN, SCAL or DUAL as docs/FORMAT.md has them, or brings more numbers than may come\n");
+    assert_eq!(explained(&text), "R 15 5\nFrame: line 5 of the input is not a line of DATA, PLAN, SCAL or DUAL as docs/FORMAT.md has them, or brings more numbers than may come\n");
+}
+
+/// The default scale is said with every answer but a Frame, of which no scale was taken.
+#[test]
+fn the_default_scale_is_said() {
+    let kilowatts = station_text();
+    assert_eq!(explained(&kilowatts), "A 40000000000000 0\nAccepted: the plan costs 40000000000000 and no other plan costs less by more than 0, in millionths of a money unit times N; the scale N is 1000, the default where there is no SCAL line\n");
+    // A plan in MW, as it was read before request (v).
+    let megawatts = without_scale_line(&stations()[0].text());
+    assert_eq!(explained(&megawatts), "R 7 0\nBroken: row 0, equation (14) demand balance, year 1, zone 1, season 1, day 1, hour 1: its positive terms come to 8000, its negative terms to 8000000, and the two must be equal; the scale N is 1000, the default where there is no SCAL line\n");
+    assert_eq!(explained(b""), "R 2 7\nData length: DATA has 0 numbers and must have 7; the scale N is 1000, the default where there is no SCAL line\n");
+    let unended = &kilowatts[..kilowatts.len() - 1];
+    assert_eq!(explained(unended), "R 15 3\nFrame: line 3 of the input is not a line of DATA, PLAN, SCAL or DUAL as docs/FORMAT.md has them, or brings more numbers than may come\n");
+}
+
+/// N is said as the SCAL line has it, before it was tested too.
+#[test]
+fn a_scale_out_of_range_is_said() {
+    for scale in [0, u32::MAX] {
+        let mut case = stations()[0].case();
+        case.scale = scale;
+        assert_eq!(
+            said(&case),
+            format!("R 4 0\nScale: N: it is {scale} and must be from 1 to 1000")
+        );
+        case.data[0] = 9;
+        assert!(said(&case).starts_with("R 1 0\nShape: "));
+    }
 }
 
 #[test]
@@ -356,6 +394,16 @@ fn rows_and_columns_of_lines() {
     assert_eq!(off_scale, "Row off scale: row 9, equation (15) transfer limit, year 2, zone 1, to zone 2, season 1, day 1, hour 1: its positive terms come to more than 2^62 - 1, its negative terms to 0, and neither may be more than 2^62 - 1");
 }
 
+/// How the lines of a text have to end: a Frame's without a scale, all others with that of
+/// their SCAL line or with the default.
+fn ending(text: &[u8]) -> String {
+    match read_lines(text).map(|read| read.scale) {
+        Ok(Some(scale)) => from_scal(scale),
+        Ok(None) => BY_DEFAULT.to_string(),
+        Err(_) => " brings more numbers than may come\n".to_string(),
+    }
+}
+
 /// The line of certify comes first, and the program has room for both.
 #[test]
 fn two_lines_for_every_input() {
@@ -366,7 +414,9 @@ fn two_lines_for_every_input() {
         let lines = explained(&text.bytes);
         assert!(lines.starts_with(&run(&text.bytes)), "seed {seed}: {lines}");
         assert_eq!(lines.lines().count(), 2, "seed {seed}: {lines}");
-        assert!(lines.is_ascii() && lines.ends_with('\n'), "seed {seed}");
+        let ending = ending(&text.bytes);
+        assert!(lines.ends_with(&ending), "seed {seed}: {lines}");
+        assert!(lines.is_ascii(), "seed {seed}: {lines}");
         assert!(lines.len() < ROOM, "seed {seed}: {lines}");
     }
 }

@@ -40,7 +40,7 @@ fn two_zones() -> Shape {
 fn changed(example: &[u8], change: impl FnOnce(&mut Input)) -> Result<(u64, u64), Refusal> {
     let mut input = read_lines(example).expect("no Frame");
     change(&mut input);
-    let scale = input.scale.unwrap_or(1);
+    let scale = input.scale.expect("a SCAL line");
     certify(&input.data, scale, &input.plan, &input.multipliers)
 }
 

@@ -61,12 +61,13 @@ fn ten_cases_through_the_program() {
 }
 
 #[test]
-fn first_case_as_three_lines_prints_its_line() {
+fn first_case_as_four_lines_prints_its_line() {
     let text = String::from_utf8(stations()[0].text()).expect("letters and digits");
     let lines: Vec<&str> = text.lines().collect();
-    assert_eq!(lines.len(), 3);
+    assert_eq!(lines.len(), 4);
     assert_eq!(lines[0].split(' ').count(), 1 + DATA_LENGTH);
     assert_eq!(lines[1].split(' ').count(), 1 + COLUMNS);
-    assert_eq!(lines[2].split(' ').count(), 1 + ROWS);
+    assert_eq!(lines[2], "SCAL 00000001");
+    assert_eq!(lines[3].split(' ').count(), 1 + ROWS);
     assert_eq!(run(text.as_bytes()), "A 40000000000 0\n");
 }

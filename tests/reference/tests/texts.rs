@@ -44,7 +44,7 @@ fn lines_join_to_the_case() {
         assert_eq!(read.data, generated.case.data);
         assert_eq!(read.plan, generated.case.plan);
         assert_eq!(read.multipliers, generated.case.multipliers);
-        assert_eq!(read.scale.unwrap_or(1), generated.case.scale);
+        assert_eq!(read.scale.unwrap_or(1000), generated.case.scale);
         assert_eq!(run(&text), line_of(&generated.case), "seed {seed}");
     }
 }

@@ -23,29 +23,27 @@ pub fn fits(case: &Case) -> bool {
         && case.multipliers.len() <= MOST_DUAL
 }
 
-/// The case as lines of varying length, the words mixed. A scale of 1 is left
-/// out half of the time.
+/// The case as lines of varying length, the words mixed. A scale of 1000, which is
+/// taken where there is no SCAL line, is left out half of the time.
 pub fn sound_lines(random: &mut Random, case: &Case) -> Vec<Vec<u8>> {
     let [data, plan, duals] = digits(case);
     let data = split(random, "DATA", &data);
     let plan = split(random, "PLAN", &plan);
     let dual = split(random, "DUAL", &duals);
     let mut scale = vec![];
-    if case.scale != 1 || random.chance(1, 2) {
-        scale.push(scale_line(case));
+    if case.scale != 1000 || random.chance(1, 2) {
+        scale.push(scale_line(case.scale));
     }
     mix(random, vec![data, plan, dual, scale])
 }
 
 /// The case as lines of `most` numbers, the last of each word with what is left:
-/// DATA, PLAN, SCAL, DUAL. A scale of 1 is left out.
+/// DATA, PLAN, SCAL, DUAL. The scale is written whatever it is.
 pub fn plain_lines(case: &Case, most: usize) -> Vec<Vec<u8>> {
     let [data, plan, duals] = digits(case);
     let mut lines = cut("DATA", &data, || most);
     lines.extend(cut("PLAN", &plan, || most));
-    if case.scale != 1 {
-        lines.push(scale_line(case));
-    }
+    lines.push(scale_line(case.scale));
     lines.extend(cut("DUAL", &duals, || most));
     lines
 }
@@ -57,8 +55,21 @@ fn digits(case: &Case) -> [Vec<String>; 3] {
     [words(&case.data), words(&case.plan), duals.collect()]
 }
 
-fn scale_line(case: &Case) -> Vec<u8> {
-    format!("SCAL {:08X}", case.scale).into_bytes()
+pub fn scale_line(scale: u32) -> Vec<u8> {
+    format!("SCAL {scale:08X}").into_bytes()
+}
+
+/// Whether a line of the text opens with SCAL, be it a good line or a Frame.
+pub fn has_scale_line(text: &[u8]) -> bool {
+    text.split(|&byte| byte == b'\n')
+        .any(|line| line.starts_with(b"SCAL"))
+}
+
+/// The text without the lines that open with SCAL; every other line stays as it is.
+pub fn without_scale_line(text: &[u8]) -> Vec<u8> {
+    let lines = text.split_inclusive(|&byte| byte == b'\n');
+    let others = lines.filter(|line| !line.starts_with(b"SCAL"));
+    others.collect::<Vec<_>>().concat()
 }
 
 /// Lines of 64 numbers, or of 1..64.

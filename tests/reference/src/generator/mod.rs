@@ -12,7 +12,7 @@
 //! - `anything` makes lists of any length and content;
 //! - `frames` writes a case as the program's text, sound and damaged; `bytes`
 //!   changes a text byte by byte, `large` makes texts as large as any that can be
-//!   accepted, and larger;
+//!   accepted, and larger; `thousandths` makes texts without a SCAL line;
 //! - `stations` are the ten cases of document 01's one-plant station, `seasons` fixed cases
 //!   of links by season;
 //! - `rivals` makes other feasible plans over the same data.
@@ -35,6 +35,7 @@ pub mod seasons;
 pub mod solved;
 pub mod sound;
 pub mod stations;
+pub mod thousandths;
 
 use crate::calls::LARGEST_MULTIPLIER;
 use crate::columns::COLUMNS;
@@ -101,6 +102,11 @@ pub fn sound_case(shape: Shape, seed: u64) -> Case {
 
 pub(crate) fn sound_draft(random: &mut Random, shape: Shape) -> Draft {
     let scale = scale(random);
+    sound_draft_at(random, shape, scale)
+}
+
+/// A sound case of a given shape and scale.
+fn sound_draft_at(random: &mut Random, shape: Shape, scale: u32) -> Draft {
     let mut draft = sound::draft(random, shape, scale);
     multipliers::draw(random, &mut draft);
     draft.draw_board(random);

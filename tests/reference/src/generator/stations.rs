@@ -123,7 +123,8 @@ impl Station {
         }
     }
 
-    /// One line for each word, as the page gives its first case.
+    /// One line for each word, as the page gives its first case, and with request (v) the
+    /// SCAL line that the page leaves out.
     pub fn text(&self) -> Vec<u8> {
         join(&plain_lines(&self.case(), 64))
     }
