@@ -140,6 +140,46 @@ fn answers_to_changes_named_on_the_page() {
     assert_eq!(answer(line_within_a_zone), refused(3, 66));
 }
 
+/// The station's text with another PLAN line or SCAL line; without one where `scale` is none.
+fn station_text(plan: &str, scale: Option<&str>) -> String {
+    let station = std::str::from_utf8(STATION).expect("letters and digits");
+    let mut text = String::new();
+    for line in station.lines() {
+        let (word, numbers) = line.split_once(' ').expect("a word and numbers");
+        let numbers = match word {
+            "PLAN" => Some(plan),
+            "SCAL" => scale,
+            _ => Some(numbers),
+        };
+        if let Some(numbers) = numbers {
+            text += &format!("{word} {numbers}\n");
+        }
+    }
+    text
+}
+
+/// What the page says of the station with and without a SCAL line.
+#[test]
+fn the_station_without_a_scal_line() {
+    let zeros = |count| " 00000000".repeat(count);
+    let megawatts = format!("0000000A{} 00000008{}", zeros(2), zeros(10));
+    let kilowatts = format!("00002710{} 00001F40{}", zeros(2), zeros(10));
+    for (words, plan, scale) in [
+        ("MW, `SCAL 00000001`", &megawatts, Some("00000001")),
+        ("MW, no SCAL line", &megawatts, None),
+        ("kW, no SCAL line", &kilowatts, None),
+        ("kW, `SCAL 000003E8`", &kilowatts, Some("000003E8")),
+        ("kW, `SCAL 00000000`", &kilowatts, Some("00000000")),
+    ] {
+        let line = run(station_text(plan, scale).as_bytes());
+        let shown = format!("| the plan in {words} | `{}` |", line.trim_end());
+        assert!(PAGE.contains(&shown), "the page lacks {shown}");
+    }
+    let in_file = station_text(&megawatts, Some("00000001"));
+    assert_eq!(in_file.as_bytes(), STATION);
+    said_of_text_is_shown(station_text(&megawatts, None).as_bytes());
+}
+
 /// A line of a table of changes on the page: an example's plan, data or multipliers
 /// changed, and the answer, which the page names beside the change.
 fn answers_as_shown(example: &[u8], words: &str, change: impl FnOnce(&mut Input)) {
@@ -374,8 +414,12 @@ fn sentence_is_shown(input: Input) {
         multipliers: input.multipliers,
         ..Case::default()
     };
-    let lines = explain(&join(&plain_lines(&case, 64)));
-    let lines = String::from_utf8(lines).expect("ASCII");
+    said_of_text_is_shown(&join(&plain_lines(&case, 64)));
+}
+
+/// The page has what explain says of a text.
+fn said_of_text_is_shown(text: &[u8]) {
+    let lines = String::from_utf8(explain(text)).expect("ASCII");
     let sentence = lines.lines().nth(1).expect("two lines");
     assert!(PAGE.contains(sentence), "the page lacks {sentence}");
 }
