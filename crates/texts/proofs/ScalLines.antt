@@ -11,8 +11,7 @@ use lib.Dec.{eqb, leb}
 use lib.ListN.{length, getD, length-append}
 use lib.Seq.{getD-append-add}
 use borrow.Author.Tests.{leb-true, eqb-true, ne-eqb}
-use Rattle.texts.specs.declared.Number.{Number}
-use Rattle.texts.specs.declared.Number.the-variants.{Value, NoNumber}
+use Rattle.texts.specs.declared.Number.the-variants.{NoNumber}
 use Rattle.texts.specs.declared.Word.{Word}
 use Rattle.texts.specs.declared.Word.the-variants.{Data, Plan, Scal, Dual, Other}
 use Rattle.texts.specs.Format.{lineFeed, wordLength, dataWord, planWord, scalWord, dualWord, digits, dualDigits, mostData, mostPlan, mostScal, mostDual, plain, signed, digit, withDigit, digitsAt, numberAt, count, oneMore, numbers, after, join, opensWith, wordOf, Lists, noLists, withData, withPlan, withScal, withDual, lineOf, addLine}
@@ -188,26 +187,28 @@ module _ {l : List ℕ} {v : ℕ} (scal : ScalLine l v) where
     byte-is : (i : ℕ) → getD whole-line (suc (length u + i)) 0 ≡ getD l i 0
     byte-is i = getD-append-add u l i 0
 
-    -- a number of 8 or 16 digits of which the eighth digit would be the L or the space
+    -- a number of 8 digits or more of which the eighth would be no digit
     stops : {A : Type 0} (value : ℕ → A) (w i n j : ℕ) → 7 < w → i < n → wordLength + i * (w + 1) + 1 + 7 ≡ suc (length u + j) → digit (getD l j 0) ≡ NoNumber → numbers value w whole-line n ≡ none
     stops value w i n j wide h e f =
         numbers-none value w whole-line i n h (number-stop whole-line (wordLength + i * (w + 1)) 7 w wide (rw (e, byte-is j) f))
 
-    short-numbers : (n : ℕ) → 1 ≤ n → Counted (length whole-line) digits n → numbers plain digits whole-line n ≡ none
-    short-numbers n h c = stops plain digits (n - 2) n 3 (omega arith) (omega (arith, c .long, length-is)) (omega (arith, c .long, length-is)) (scal .letter)
+    -- of 8 digits the last number is that of the SCAL line, and the one before it ends in the L
+    short-numbers : {A : Type 0} (value : ℕ → A) (n : ℕ) → 1 ≤ n → Counted (length whole-line) digits n → numbers value digits whole-line n ≡ none
+    short-numbers value n h c = stops value digits (n - 2) n 3 (omega arith) (omega (arith, c .long, length-is)) (omega (arith, c .long, length-is)) (scal .letter)
 
-    long-numbers : (n : ℕ) → 1 ≤ n → Counted (length whole-line) dualDigits n → numbers signed dualDigits whole-line n ≡ none
-    long-numbers n h c = stops signed dualDigits (n - 1) n 4 (omega arith) (omega (arith, h)) (omega (arith, h, c .long, length-is)) (scal .parted)
+    -- of 16 digits the last number has the space among its digits
+    long-numbers : {A : Type 0} (value : ℕ → A) (n : ℕ) → 1 ≤ n → Counted (length whole-line) dualDigits n → numbers value dualDigits whole-line n ≡ none
+    long-numbers value n h c = stops value dualDigits (n - 1) n 4 (omega arith) (omega (arith, h)) (omega (arith, h, c .long, length-is)) (scal .parted)
 
     no-line : (s : Lists) → addLine whole-line s ≡ none
     unfolding addLine lineOf
     no-line s = go (wordOf whole-line)
       where
         go : (w : Word) → lineOf w whole-line s ≡ none
-        go Data = rw (join-none plain digits whole-line mostData (s .ofData) short-numbers)
-        go Plan = rw (join-none plain digits whole-line mostPlan (s .ofPlan) short-numbers)
-        go Scal = rw (join-none plain digits whole-line mostScal (s .ofScal) short-numbers)
-        go Dual = rw (join-none signed dualDigits whole-line mostDual (s .ofDual) long-numbers)
+        go Data = rw (join-none plain digits whole-line mostData (s .ofData) (short-numbers plain))
+        go Plan = rw (join-none plain digits whole-line mostPlan (s .ofPlan) (short-numbers plain))
+        go Scal = rw (join-none plain digits whole-line mostScal (s .ofScal) (short-numbers plain))
+        go Dual = rw (join-none signed dualDigits whole-line mostDual (s .ofDual) (long-numbers signed))
         go Other = refl
 
   -- the lines of a text with it: the last of them, or the end of the last
