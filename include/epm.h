@@ -24,6 +24,8 @@
  *              season D, hours of a day T, years Y. Then 48 tables: plants,
  *              demand, cables, prices, limits, batteries, new lines.
  * scale        N, 1 to 1000: the plan's entries are whole Nths of their unit.
+ *              There is no default here: the 1000 of a text without a SCAL line is
+ *              that of the programs alone.
  * plan         One entry for each column: capacity, generation, reserve,
  *              flow, unmet demand, charge, lines built and the others, in
  *              docs/FORMAT.md's order.
