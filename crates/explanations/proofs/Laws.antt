@@ -18,7 +18,7 @@ use Rattle.answer_line.specs.Line.{lineOf}
 use Rattle.answer_line.specs.Place.{Put}
 use Rattle.writer.specs.Writing.{room, Said}
 use Rattle.writer.proofs.Laws.{said-whole, put-within, put-first}
-use Rattle.explanations.specs.Asked.{AskedOf}
+use Rattle.answer_words.specs.Asked.{AskedOf}
 use Rattle.explanations.specs.Explained.{answerWords, certifiedWords, explanationOf, explainText, LineBinds, Explains}
 use Rattle.explanations.proofs.Refused.{refused-asked}
 

@@ -22,7 +22,7 @@ use Rattle.model.specs.Tests.{unless, headFault, countFault, countsFault, lengt
 use Rattle.model.specs.Calls.{certificate, checkFault, certifyFault, certify}
 use Rattle.model.proofs.Sound.{passed, own-refusal}
 use Rattle.sentences.specs.Asked.{OfRow, OfColumn, HeadFine}
-use Rattle.explanations.specs.Asked.{Asked}
+use Rattle.answer_words.specs.Asked.{Asked}
 
 -- certify withholds with the fault of its tests
 withheld-fault : (f : Fault Refusal) (c g : ℕ) {r : Refusal} → certificate f c g ≡ Withheld r → f ≡ fault r

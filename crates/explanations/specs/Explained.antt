@@ -14,7 +14,7 @@ use Rattle.frames.specs.Format.{scaleIn, BindsText}
 use Rattle.answer_line.specs.Line.{lineOf}
 use Rattle.writer.specs.Writing.{room}
 use Rattle.explanations.specs.declared.Explanation.{Explanation}
-use Rattle.explanations.specs.Answers.{scaleTaken, sentence}
+use Rattle.answer_words.specs.Answers.{scaleTaken, sentence}
 
 module _ (l : List ℕ) (N : ℕ) (plan : List ℕ) (ms : List ℤ) where
   unfoldable pub answerWords : Certificate → List ℕ

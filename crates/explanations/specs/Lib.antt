@@ -1,4 +1,2 @@
-pub mod Asked
-pub mod Answers
 pub mod Explained
 pub mod Claims

@@ -1,7 +1,7 @@
-use Rattle.explanations.specs.Answers.{sentence}
+use Rattle.answer_words.specs.Answers.{sentence}
 use borrow.Author.Needs.{needs}
-use Rattle.explanations.proofs.say_sentence.Statement.{statement}
-use Rattle.explanations.proofs.say_sentence.Tie as tie
+use Rattle.answer_words.proofs.say_sentence.Statement.{statement}
+use Rattle.answer_words.proofs.say_sentence.Tie as tie
 
 enum-known-answer : tie.Need-enum-known-answer
 enum-known-answer c = search needs

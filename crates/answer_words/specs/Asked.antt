@@ -8,7 +8,7 @@ use Rattle.model.specs.declared.Refusal.{Refusal}
 use Rattle.model.specs.declared.Refusal.the-variants.{Shape, DataLength, Entry, Scale, PlanLength, RowOffScale, Broken, CostOffScale, MultiplierCount, Multiplier, ColumnOffScale, Underpriced, GapOffScale, Board, Frame, Storage}
 use Rattle.sentences.specs.Asked.{OfRow, OfMultiplier, OfColumn, OfEntry, OfPlant, OfCount}
 
--- data, plan, multipliers and the refusal; a refusal without a place asks nothing, nor does one whose figure is a length; 14 certify never answers (`refused-asked` in proofs/Refused.antt)
+-- data, plan, multipliers and the refusal; a refusal without a place asks nothing, nor does one whose figure is a length; 14 certify never answers (`refused-asked` in crates/explanations/proofs/Refused.antt)
 abbrev pub Asked : List ℕ → List ℕ → List ℤ → Refusal → Type 0
 Asked l plan ms (Shape i) = OfCount l i
 Asked l plan ms (DataLength n) = Unit {0}

@@ -1,8 +1,8 @@
 use Rattle.writer.proofs.Laws.{said-joined}
-use Rattle.explanations.specs.Answers.{acceptedWords}
+use Rattle.answer_words.specs.Answers.{acceptedWords}
 use borrow.Author.Needs.{needs}
-use Rattle.explanations.proofs.say_accepted.Statement.{statement}
-use Rattle.explanations.proofs.say_accepted.Tie as tie
+use Rattle.answer_words.proofs.say_accepted.Statement.{statement}
+use Rattle.answer_words.proofs.say_accepted.Tie as tie
 
 slice-aggregate-say-with : tie.Need-slice-aggregate-say-with
 slice-aggregate-say-with c = search needs

@@ -1,8 +1,8 @@
 use Rattle.sentences.proofs.Laws.{plant-low}
-use Rattle.explanations.specs.Answers.{bodyWords}
+use Rattle.answer_words.specs.Answers.{bodyWords}
 use borrow.Author.Needs.{needs}
-use Rattle.explanations.proofs.say_body.Statement.{statement}
-use Rattle.explanations.proofs.say_body.Tie as tie
+use Rattle.answer_words.proofs.say_body.Statement.{statement}
+use Rattle.answer_words.proofs.say_body.Tie as tie
 
 enum-known-refusal : tie.Need-enum-known-refusal
 enum-known-refusal c = search needs

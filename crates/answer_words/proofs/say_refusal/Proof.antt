@@ -1,8 +1,8 @@
 use Rattle.writer.proofs.Laws.{said-joined}
-use Rattle.explanations.specs.Answers.{refusedWords}
+use Rattle.answer_words.specs.Answers.{refusedWords}
 use borrow.Author.Needs.{needs}
-use Rattle.explanations.proofs.say_refusal.Statement.{statement}
-use Rattle.explanations.proofs.say_refusal.Tie as tie
+use Rattle.answer_words.proofs.say_refusal.Statement.{statement}
+use Rattle.answer_words.proofs.say_refusal.Tie as tie
 
 code-of-requires : tie.Need-code-of-requires
 code-of-requires c κs = search needs

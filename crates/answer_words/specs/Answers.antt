@@ -39,7 +39,7 @@ scaleTaken xs =
 -- The sentence
 
 module _ (l : List ℕ) (N : ℕ) (plan : List ℕ) (ms : List ℤ) where
-  -- the place of a refusal, and its figures; certify never answers 14 (`refused-asked` in proofs/Refused.antt)
+  -- the place of a refusal, and its figures; certify never answers 14 (`refused-asked` in crates/explanations/proofs/Refused.antt)
   unfoldable pub bodyWords : Refusal → List ℕ
   bodyWords (Shape i) = shapeWords l i
   bodyWords (DataLength n) = lengthWords (bytes "DATA") (length l) n
