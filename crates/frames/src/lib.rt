@@ -2,13 +2,13 @@
 use epm::certify;
 use model::Certificate;
 use model::Refusal;
+use text_reader::read_text;
 use texts::MOST_DATA;
 use texts::MOST_DUAL;
 use texts::MOST_PLAN;
 use texts::MOST_SCAL;
 use texts::Reading;
 use texts::Used;
-use texts::input::read_text;
 ghost use mathlib.Core.Path.{_≡_};
 ghost use Rattle.texts.specs.Buffers.{Room, Within, listsIn};
 ghost use Rattle.texts.specs.Format.{whole};

@@ -1,5 +1,4 @@
 // The lines of the certify program's text input, read into lent buffers.
-pub mod input;
 pub mod lines;
 pub mod numbers;
 

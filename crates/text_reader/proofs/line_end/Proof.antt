@@ -2,10 +2,10 @@ use mathlib.Core.Path.{_≡_, refl}
 use Prim.Native.Nat.{_+_, _-_, _≤_}
 use borrow.Author.Needs.{needs}
 use lib.ListN.{length, drop}
 use Rattle.texts.specs.Buffers.{lineLength}
-use Rattle.texts.proofs.TextLaws.{line-on, line-ends, text-ends}
-use Rattle.texts.proofs.input.line_end.Statement.{statement}
-use Rattle.texts.proofs.input.line_end.Tie as tie
+use Rattle.text_reader.proofs.Laws.{line-on, line-ends, text-ends}
+use Rattle.text_reader.proofs.line_end.Statement.{statement}
+use Rattle.text_reader.proofs.line_end.Tie as tie
 
 abbrev Inv-loop : tie.InvT-loop
 Inv-loop text at i₀ i = (i ≤ length text) × (at + lineLength (drop at text) ≡ i + lineLength (drop i text))

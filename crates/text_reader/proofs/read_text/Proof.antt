@@ -1,11 +1,11 @@
 use Prim.Native.Nat.{_-_}
 use borrow.Author.Needs.{needs}
 use lib.ListN.{length}
 use Rattle.texts.specs.Buffers.{lineIn, textIn}
 use Rattle.texts.proofs.BufferLaws.{room-kept}
-use Rattle.texts.proofs.TextLaws.{Reached, reached-start, reached-end, reached-unended, reached-frame, reached-next}
-use Rattle.texts.proofs.input.read_text.Statement.{statement}
-use Rattle.texts.proofs.input.read_text.Tie as tie
+use Rattle.text_reader.proofs.Laws.{Reached, reached-start, reached-end, reached-unended, reached-frame, reached-next}
+use Rattle.text_reader.proofs.read_text.Statement.{statement}
+use Rattle.text_reader.proofs.read_text.Tie as tie
 
 abbrev Inv-loop : tie.InvT-loop
 Inv-loop text data₀ plan₀ scal₀ dual₀ used₀ at₀ number₀ «data» plan scal dual used at number = Reached text at number used «data» plan scal dual

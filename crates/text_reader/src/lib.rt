@@ -1,13 +1,13 @@
-// A whole text, line by line.
-use crate::Line;
-use crate::Reading;
-use crate::Used;
-use crate::lines::read_line;
+// A whole text, line by line, read into lent buffers.
+use texts::Line;
+use texts::Reading;
+use texts::Used;
+use texts::lines::read_line;
 ghost use mathlib.Core.Path.{_≡_};
 ghost use Prim.Native.Nat.{_+_, _≤_};
 ghost use lib.ListN.{length, drop};
 ghost use Rattle.texts.specs.Buffers.{lineLength, textIn, Room, ReadingWithin};
 ghost use Rattle.texts.specs.Format.{textOf};
 
 const LINE_FEED: u8 = 10;
 
