@@ -15,10 +15,11 @@ use Rattle.model.specs.Standing.{standing⁺, standing⁻}
 use Rattle.tables.specs.Layout.{Counted, Inside}
 use Rattle.tables.proofs.Members.{column-inside}
 use Rattle.duals.specs.Multipliers.{RowsAt}
-use Rattle.columns.specs.declared.Pair.{Pair}
-use Rattle.columns.specs.Pairs.{pairOf, pricedPair, familySets, Row, Ready}
-use Rattle.columns.proofs.Laws.{row-at, column-priced}
-use Rattle.columns.proofs.Sound.{sound-placed}
+use Rattle.column_terms.specs.declared.Pair.{Pair}
+use Rattle.column_terms.specs.Pairs.{pairOf, pricedPair, familySets, Row, Ready}
+use Rattle.column_terms.proofs.Laws.{row-at}
+use Rattle.column_terms.proofs.Sound.{sound-placed}
+use Rattle.columns.proofs.Laws.{column-priced}
 
 -- what `column_sums` asks
 abbrev Asked : List ℕ → List ℕ → List ℤ → List ℕ → Counts → Index → Type 0

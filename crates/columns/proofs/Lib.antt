@@ -1,4 +1,3 @@
 pub mod Laws
-pub mod Sound
 pub mod Groups
 pub mod Arms

@@ -1,11 +1,11 @@
 // The columns of the lines that are built between zones: built and total.
-use crate::Pair;
-use crate::pairs::add_row;
-use crate::pairs::add_row_if;
-use crate::pairs::join;
-use crate::pairs::none;
-use crate::pairs::take_row;
-use crate::pairs::take_row_if;
+use column_terms::Pair;
+use column_terms::pairs::add_row;
+use column_terms::pairs::add_row_if;
+use column_terms::pairs::join;
+use column_terms::pairs::none;
+use column_terms::pairs::take_row;
+use column_terms::pairs::take_row_if;
 use duals::RowStarts;
 use model::Counts;
 use tables::entries::by_pair;
@@ -25,7 +25,7 @@ ghost use Rattle.model.specs.Data.{Data, read, mwPerLine, most32};
 ghost use Rattle.model.specs.Standing.{builtIn⁻, totalInSlice⁺, totalIn⁺, totalIn⁻};
 ghost use Rattle.tables.specs.Layout.{Counted};
 ghost use Rattle.duals.specs.Multipliers.{RowsAt};
-ghost use Rattle.columns.specs.Pairs.{pairOf, Ready};
+ghost use Rattle.column_terms.specs.Pairs.{pairOf, Ready};
 
 // Families 26 and 27.
 pub fn built_column(ms: &[i64], rows_at: &RowStarts, c: Counts, y: usize, z: usize, w: usize) -> Pair

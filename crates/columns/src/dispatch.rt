@@ -1,16 +1,16 @@
 // The columns gen and reserve.
-use crate::Pair;
-use crate::pairs::add_row;
-use crate::pairs::add_row_if;
-use crate::pairs::join;
-use crate::pairs::none;
-use crate::pairs::take_row;
-use crate::pairs::take_row_if;
-use crate::ramps::in_ramps;
-use crate::readers::fuel_of;
-use crate::readers::hourly;
-use crate::readers::on_min_load_day;
-use crate::readers::zone_of;
+use column_terms::Pair;
+use column_terms::pairs::add_row;
+use column_terms::pairs::add_row_if;
+use column_terms::pairs::join;
+use column_terms::pairs::none;
+use column_terms::pairs::take_row;
+use column_terms::pairs::take_row_if;
+use column_terms::ramps::in_ramps;
+use column_terms::readers::fuel_of;
+use column_terms::readers::hourly;
+use column_terms::readers::on_min_load_day;
+use column_terms::readers::zone_of;
 use duals::RowStarts;
 use model::Counts;
 use parts::slices::season_of;
@@ -42,7 +42,7 @@ ghost use Prim.Native.Nat.{_<_};
 ghost use Rattle.model.specs.Counts.{slicesOf};
 ghost use Rattle.model.specs.Data.{read};
 ghost use Rattle.model.specs.Standing.{genIn⁺, genIn⁻, reserveIn⁺, reserveIn⁻};
-ghost use Rattle.columns.specs.Pairs.{pairOf, Ready};
+ghost use Rattle.column_terms.specs.Pairs.{pairOf, Ready};
 ghost use Rattle.columns.specs.Groups.{genInZone⁺, genInZone⁻, genInLoad⁺, genInLoad⁻};
 
 // The rows of the plant's zone: families 1, 3, 17, 19 and 20.

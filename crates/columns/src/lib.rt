@@ -1,19 +1,15 @@
 // The columns under the multipliers: Σ m·a of each column, over the rows that it stands in, positive and negative terms apart.
 pub mod cables;
-pub mod capacity;
 pub mod dispatch;
-pub mod pairs;
-pub mod ramps;
-pub mod readers;
 pub mod storage;
 pub mod zones;
 
 use cables::built_column;
 use cables::total_column;
-use capacity::build_column;
-use capacity::cap_column;
-use capacity::retire_column;
-use capped::Sum;
+use capacity_columns::build_column;
+use capacity_columns::cap_column;
+use capacity_columns::retire_column;
+use column_terms::Pair;
 use dispatch::gen_column;
 use dispatch::reserve_column;
 use duals::RowStarts;
@@ -45,13 +41,7 @@ ghost use mathlib.Core.Path.{_≡_};
 ghost use Rattle.sums.specs.Index.{indexOf, Member};
 ghost use Rattle.model.specs.Columns.{columnBoxes};
 ghost use Rattle.model.specs.Data.{read};
-ghost use Rattle.columns.specs.Pairs.{pricedPair, Ready};
-
-// A column's positive and negative terms m·a, summed apart.
-pub struct Pair {
-    pub up: Sum,
-    pub down: Sum,
-}
+ghost use Rattle.column_terms.specs.Pairs.{pricedPair, Ready};
 
 // Column p, of any kind.
 pub fn column_sums(data: &[u32], ms: &[i64], tables_at: &Starts, rows_at: &RowStarts, c: Counts, p: Place) -> Pair

@@ -1,13 +1,13 @@
 // The columns charge and level. Of a plant that is no battery each stands only in the rows that hold it at 0.
-use crate::Pair;
-use crate::pairs::add_row;
-use crate::pairs::join;
-use crate::pairs::none;
-use crate::pairs::take_row;
-use crate::pairs::take_row_if;
-use crate::ramps::in_ramps;
-use crate::readers::after_first_hour;
-use crate::readers::zone_of;
+use column_terms::Pair;
+use column_terms::pairs::add_row;
+use column_terms::pairs::join;
+use column_terms::pairs::none;
+use column_terms::pairs::take_row;
+use column_terms::pairs::take_row_if;
+use column_terms::ramps::in_ramps;
+use column_terms::readers::after_first_hour;
+use column_terms::readers::zone_of;
 use duals::RowStarts;
 use model::Counts;
 use tables::entries::by_plant;
@@ -26,7 +26,7 @@ ghost use Prim.Native.Nat.{_<_};
 ghost use Rattle.model.specs.Counts.{slicesOf};
 ghost use Rattle.model.specs.Data.{read};
 ghost use Rattle.model.specs.Standing.{chargeIn⁺, chargeIn⁻, levelIn⁺, levelIn⁻};
-ghost use Rattle.columns.specs.Pairs.{pairOf, Ready};
+ghost use Rattle.column_terms.specs.Pairs.{pairOf, Ready};
 
 // Families 1 and 22; of a battery also 21, 23 and 24.
 pub fn charge_column(data: &[u32], ms: &[i64], tables_at: &Starts, rows_at: &RowStarts, c: Counts, y: usize, g: usize, s: usize) -> Pair

@@ -1,11 +1,11 @@
 // The columns of links and zones: trans, unmet, surplus, spinshort and firmshort.
-use crate::Pair;
-use crate::pairs::add_row;
-use crate::pairs::add_row_if;
-use crate::pairs::none;
-use crate::pairs::take_row;
-use crate::pairs::take_row_if;
-use crate::readers::delivered;
+use column_terms::Pair;
+use column_terms::pairs::add_row;
+use column_terms::pairs::add_row_if;
+use column_terms::pairs::none;
+use column_terms::pairs::take_row;
+use column_terms::pairs::take_row_if;
+use column_terms::readers::delivered;
 use duals::RowStarts;
 use model::Counts;
 use tables::families::BALANCE;
@@ -22,7 +22,7 @@ ghost use Rattle.model.specs.Families.{row};
 ghost use Rattle.model.specs.Standing.{transIn⁺, transIn⁻};
 ghost use Rattle.tables.specs.Layout.{Counted};
 ghost use Rattle.duals.specs.Multipliers.{RowsAt};
-ghost use Rattle.columns.specs.Pairs.{pairOf, Row, Ready};
+ghost use Rattle.column_terms.specs.Pairs.{pairOf, Row, Ready};
 
 // From z to w: families 1 (z sends, w receives less the loss), 2 and 3.
 pub fn trans_column(data: &[u32], ms: &[i64], tables_at: &Starts, rows_at: &RowStarts, c: Counts, y: usize, z: usize, w: usize, s: usize) -> Pair

@@ -34,8 +34,8 @@ use Rattle.parts.proofs.Parts.{places-are, part-asked}
 use Rattle.ranges.specs.Ranges.{ranged, rangeOf}
 use Rattle.rows.specs.declared.Sides.{Sides}
 use Rattle.rows.specs.Ready.{sidesOf}
-use Rattle.columns.specs.declared.Pair.{Pair}
-use Rattle.columns.specs.Pairs.{pricedPair}
+use Rattle.column_terms.specs.declared.Pair.{Pair}
+use Rattle.column_terms.specs.Pairs.{pricedPair}
 use Rattle.figures.specs.declared.RowFigures.{RowFigures}
 use Rattle.figures.specs.declared.ColumnFigures.{ColumnFigures}
 use Rattle.figures.specs.Figures.{rowFigures, columnFigures, entryFigures, toldSides, toldPair}

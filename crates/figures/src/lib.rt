@@ -1,7 +1,7 @@
 // The figures behind a refusal: the sums of a row, the sums and the price of a column, an entry and its range.
 // Each by the place that `places` finds, for lists that passed the refusals before.
 use capped::Sum;
-use columns::Pair;
+use column_terms::Pair;
 use columns::column_sums;
 use compared::Amount;
 use compared::Balance;
@@ -45,7 +45,7 @@ ghost use Rattle.model.specs.Tests.{headFault, countsFault, lengthFault, entrie
 ghost use Rattle.tables.specs.Layout.{TablesAt, ColumnsAt, planEntry};
 ghost use Rattle.energy.specs.Energies.{Energies};
 ghost use Rattle.rows.specs.Ready.{sidesOf};
-ghost use Rattle.columns.specs.Pairs.{Ready};
+ghost use Rattle.column_terms.specs.Pairs.{Ready};
 ghost use Rattle.figures.specs.Figures.{toldSides, toldPair, rowFigures, columnFigures, entryFigures};
 
 // What a row's positive terms and its negative terms come to.

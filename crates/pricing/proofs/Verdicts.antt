@@ -28,8 +28,8 @@ use Rattle.model.specs.Tests.{priced⁺, priced⁻, unless, columnFault}
 use Rattle.tables.specs.Layout.{outcome}
 use Rattle.prices.specs.Costs.{unitPrice, hoursOf}
 use Rattle.prices.proofs.Laws.{column-price}
-use Rattle.columns.specs.declared.Pair.{Pair}
-use Rattle.columns.specs.Pairs.{pricedPair}
+use Rattle.column_terms.specs.declared.Pair.{Pair}
+use Rattle.column_terms.specs.Pairs.{pricedPair}
 use Rattle.pricing.specs.Verdict.{verdictOf, ordered}
 
 -- the code's ways out

@@ -9,7 +9,7 @@ use Rattle.compared.specs.Compared.{over, order}
 use Rattle.model.specs.declared.Outcome.{Outcome}
 use Rattle.model.specs.declared.Outcome.the-variants.{Fine, Fails}
 use Rattle.model.specs.declared.Refusal.the-variants.{ColumnOffScale, Underpriced}
-use Rattle.columns.specs.declared.Pair.{Pair}
+use Rattle.column_terms.specs.declared.Pair.{Pair}
 
 -- whether a column is priced well, by how its terms above zero compare with its price and its terms below
 abbrev pub ordered : Order → ℕ → Outcome

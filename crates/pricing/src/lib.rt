@@ -1,6 +1,6 @@
 // The walk over all columns, in the order of the plan, left at the first that is off scale or underpriced: refusals 11 and 12.
 use capped::Sum;
-use columns::Pair;
+use column_terms::Pair;
 use columns::column_sums;
 use compared::Order;
 use duals::RowStarts;
@@ -23,7 +23,7 @@ ghost use Rattle.model.specs.Columns.{columnBoxes};
 ghost use Rattle.model.specs.Tests.{columnFault, columnsFault};
 ghost use Rattle.tables.specs.Layout.{outcome};
 ghost use Rattle.prices.specs.Costs.{unitPrice};
-ghost use Rattle.columns.specs.Pairs.{Ready};
+ghost use Rattle.column_terms.specs.Pairs.{Ready};
 ghost use Rattle.pricing.specs.Verdict.{verdictOf};
 
 // Whether either sum of a column is over the limit.

@@ -1,6 +1,6 @@
 use native.Mathlib.Omega.{arith}
 use Rattle.model.specs.Standing.{builtIn⁻}
-use Rattle.columns.proofs.Laws.{none-priced, take-priced, priced-as}
+use Rattle.column_terms.proofs.Laws.{none-priced, take-priced, priced-as}
 use borrow.Author.Needs.{needs}
 use Rattle.columns.proofs.cables.built_column.Statement.{statement}
 use Rattle.columns.proofs.cables.built_column.Tie as tie

@@ -1,7 +1,7 @@
 use borrow.Author.Tests.{ltb-true}
 use native.Mathlib.Omega.{arith}
 use Rattle.model.specs.Standing.{totalIn⁺, totalIn⁻}
-use Rattle.columns.proofs.Laws.{row-at, add-priced, add-priced-if, take-priced-if, priced-as}
+use Rattle.column_terms.proofs.Laws.{row-at, add-priced, add-priced-if, take-priced-if, priced-as}
 use borrow.Author.Needs.{needs}
 use Rattle.columns.proofs.cables.total_column.Statement.{statement}
 use Rattle.columns.proofs.cables.total_column.Tie as tie

@@ -1,6 +1,6 @@
 use native.Mathlib.Omega.{arith}
 use Rattle.model.specs.Standing.{totalInSlice⁺}
-use Rattle.columns.proofs.Laws.{none-priced, add-priced, add-priced-if, priced-as}
+use Rattle.column_terms.proofs.Laws.{none-priced, add-priced, add-priced-if, priced-as}
 use borrow.Author.Needs.{needs}
 use Rattle.columns.proofs.cables.total_in_slice.Statement.{statement}
 use Rattle.columns.proofs.cables.total_in_slice.Tie as tie

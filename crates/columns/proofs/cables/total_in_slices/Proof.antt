@@ -6,7 +6,7 @@ use Rattle.sums.proofs.Sums.{sum-const-zero}
 use Rattle.model.specs.Data.{read}
 use Rattle.model.specs.Counts.{slicesOf}
 use Rattle.model.specs.Standing.{totalInSlice⁺}
-use Rattle.columns.proofs.Laws.{Walked, none-priced, priced-as, walked-none, walked-more, walked-all}
+use Rattle.column_terms.proofs.Laws.{Walked, none-priced, priced-as, walked-none, walked-more, walked-all}
 use Rattle.columns.proofs.Groups.{no-power}
 use borrow.Author.Needs.{needs}
 use Rattle.columns.proofs.cables.total_in_slices.Statement.{statement}

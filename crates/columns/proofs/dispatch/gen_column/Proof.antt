@@ -1,6 +1,6 @@
 use Rattle.columns.proofs.Groups.{gen-together⁺, gen-together⁻}
 use Rattle.model.specs.Data.{read}
-use Rattle.columns.proofs.Laws.{plant-row, plant-ramp, add-priced-if, join-priced, priced-as}
+use Rattle.column_terms.proofs.Laws.{plant-row, plant-ramp, add-priced-if, join-priced, priced-as}
 use mathlib.Core.Path.{refl}
 use native.Mathlib.Omega.{arith}
 use borrow.Author.Needs.{needs}

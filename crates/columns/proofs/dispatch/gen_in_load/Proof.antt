@@ -1,6 +1,6 @@
 use native.Mathlib.Omega.{arith}
 use Rattle.columns.specs.Groups.{genInLoad⁺, genInLoad⁻}
-use Rattle.columns.proofs.Laws.{row-at, none-priced, take-priced, add-priced-if, take-priced-if, priced-as}
+use Rattle.column_terms.proofs.Laws.{row-at, none-priced, take-priced, add-priced-if, take-priced-if, priced-as}
 use borrow.Author.Needs.{needs}
 use Rattle.columns.proofs.dispatch.gen_in_load.Statement.{statement}
 use Rattle.columns.proofs.dispatch.gen_in_load.Tie as tie

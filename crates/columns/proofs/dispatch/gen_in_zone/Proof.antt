@@ -1,6 +1,6 @@
 use native.Mathlib.Omega.{arith}
 use Rattle.columns.specs.Groups.{genInZone⁺, genInZone⁻}
-use Rattle.columns.proofs.Laws.{row-at, none-priced, add-priced, take-priced, take-priced-if, priced-as}
+use Rattle.column_terms.proofs.Laws.{row-at, none-priced, add-priced, take-priced, take-priced-if, priced-as}
 use borrow.Author.Needs.{needs}
 use Rattle.columns.proofs.dispatch.gen_in_zone.Statement.{statement}
 use Rattle.columns.proofs.dispatch.gen_in_zone.Tie as tie

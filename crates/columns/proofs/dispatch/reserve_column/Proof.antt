@@ -1,6 +1,6 @@
 use native.Mathlib.Omega.{arith}
 use Rattle.model.specs.Standing.{reserveIn⁺, reserveIn⁻}
-use Rattle.columns.proofs.Laws.{none-priced, add-priced, take-priced, priced-as}
+use Rattle.column_terms.proofs.Laws.{none-priced, add-priced, take-priced, priced-as}
 use borrow.Author.Needs.{needs}
 use Rattle.columns.proofs.dispatch.reserve_column.Statement.{statement}
 use Rattle.columns.proofs.dispatch.reserve_column.Tie as tie

@@ -4,7 +4,7 @@ use native.Mathlib.Omega.{arith}
 use Rattle.model.specs.Data.{read}
 use Rattle.model.specs.Standing.{chargeIn⁺, chargeIn⁻}
 use Rattle.columns.proofs.Groups.{ramps-are}
-use Rattle.columns.proofs.Laws.{plant-row, plant-ramp, none-priced, take-priced, join-priced, priced-as}
+use Rattle.column_terms.proofs.Laws.{plant-row, plant-ramp, none-priced, take-priced, join-priced, priced-as}
 use borrow.Author.Needs.{needs}
 use Rattle.columns.proofs.storage.charge_column.Statement.{statement}
 use Rattle.columns.proofs.storage.charge_column.Tie as tie

@@ -2,8 +2,8 @@ use mathlib.Core.Path.{refl, sym, _∙_}
 use borrow.Author.Tests.{not-true, not-false}
 use native.Mathlib.Omega.{arith}
 use Rattle.model.specs.Standing.{levelIn⁺, levelIn⁻}
-use Rattle.columns.proofs.Laws.{plant-row, plant-ramp, none-priced, add-priced, take-priced, take-priced-if, priced-as}
-use Rattle.columns.proofs.Sound.{next-ramp}
+use Rattle.column_terms.proofs.Laws.{plant-row, plant-ramp, none-priced, add-priced, take-priced, take-priced-if, priced-as}
+use Rattle.column_terms.proofs.Sound.{next-ramp}
 use Rattle.tables.proofs.Laws.{few-slices}
 use borrow.Author.Needs.{needs}
 use Rattle.columns.proofs.storage.level_column.Statement.{statement}

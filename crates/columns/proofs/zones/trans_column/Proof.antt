@@ -1,6 +1,6 @@
 use native.Mathlib.Omega.{arith}
 use Rattle.model.specs.Standing.{transIn⁺, transIn⁻}
-use Rattle.columns.proofs.Laws.{row-at, none-priced, take-priced, add-priced-if, take-priced-if, priced-as}
+use Rattle.column_terms.proofs.Laws.{row-at, none-priced, take-priced, add-priced-if, take-priced-if, priced-as}
 use borrow.Author.Needs.{needs}
 use Rattle.columns.proofs.zones.trans_column.Statement.{statement}
 use Rattle.columns.proofs.zones.trans_column.Tie as tie
