@@ -2,6 +2,8 @@
 //
 // The crates above hold a `Sum`, and never match on one: they add to it by the functions below, and compare it and ask for its value by those of `compared`.
 // Each function says its result by one equation over `specs/Cap.antt`, for every input; `proofs/Laws.antt` has the laws that callers cite.
+#![tactic(auto)]
+
 ghost use Rattle.std.specs.Prelude.{◌≡◌, ◌&&◌, ◌+◌, ◌*◌, leb};
 ghost use Rattle.lengths.specs.Length.{bit_length};
 ghost use Rattle.capped.specs.declared.Sum.TheVariants.{Exact};

@@ -1,4 +1,6 @@
 // What the columns are made of: the two sums of a column, its terms and ramps, and what the columns read in common.
+#![tactic(auto)]
+
 pub mod pairs;
 pub mod ramps;
 pub mod readers;

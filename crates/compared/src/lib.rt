@@ -1,5 +1,7 @@
 // What is read off capped sums: their order, whether one is above the limit, what one comes to, and what is left of them.
 // `capped` and this crate alone match on a `Sum`.
+#![tactic(auto)]
+
 ghost use Rattle.std.specs.Prelude.{◌≡◌};
 ghost use Rattle.capped.specs.declared.Sum.TheVariants.{Exact};
 ghost use Rattle.capped.specs.Cap.{cap};

@@ -1,4 +1,6 @@
 // A row's constant: what it adds and what it takes off, like terms brought together, and which families have one.
+#![tactic(auto)]
+
 pub mod families;
 
 ghost use Rattle.std.specs.Prelude.{◌≡◌, ◌-◌};

@@ -1,5 +1,7 @@
 // The multipliers that a caller hands to certify: the two parts of each, a row's multiplier by family and index, and refusals 9 and 10.
 // Signed numbers are met in `parts_of` and `multiplier_in` only.
+#![tactic(auto)]
+
 ghost use Rattle.std.specs.Prelude.{◌≡◌, ◌&&◌, ℕ, ◌+◌, ◌≤◌, ◌<◌, leb, pos, length, get_or};
 ghost use Rattle.sums.specs.Sum.{on};
 ghost use Rattle.sums.specs.Span.{or_else};

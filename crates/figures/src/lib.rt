@@ -1,5 +1,7 @@
 // The figures behind a refusal: the sums of a row, the sums and the price of a column, an entry and its range.
 // Each by the place that `places` finds, for lists that passed the refusals before.
+#![tactic(auto)]
+
 ghost use Rattle.std.specs.Prelude.{◌≡◌, ℕ, ◌+◌, ◌-◌, length};
 ghost use Rattle.compared.specs.declared.Balance.TheVariants.{Is};
 ghost use Rattle.sums.specs.Span.{fine, fault, or_else};

@@ -1,4 +1,6 @@
 // The gap of a certificate, cost + N·Σ m·k, and refusal 13.
+#![tactic(auto)]
+
 ghost use Rattle.std.specs.Prelude.{◌≡◌, ◌≤◌, ◌<◌};
 ghost use Rattle.capped.specs.Cap.{limit, cap};
 ghost use Rattle.compared.specs.Compared.{net_of};

@@ -1,4 +1,6 @@
 // From the number of a row, a column or a data entry to its kind and indices: the inverse of document 01's numbering.
+#![tactic(auto)]
+
 ghost use Rattle.std.specs.Prelude.{◌≡◌, ◌+◌, ◌≤◌, ◌<◌, length, get_or};
 ghost use Rattle.sums.specs.Index.{volume, count, Member, index_of};
 ghost use Rattle.model.specs.Data.{table_boxes, place_of, data_length};

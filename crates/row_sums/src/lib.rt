@@ -1,4 +1,6 @@
 // A row's two sums, from its terms and its constant.
+#![tactic(auto)]
+
 ghost use Rattle.std.specs.Prelude.{◌≡◌};
 ghost use Rattle.capped.specs.Cap.{cap};
 ghost use Rattle.row_sums.specs.Ready.{sides_with, sides};

@@ -1,4 +1,6 @@
 // Numbers in capital hexadecimal, as the lines of the certify program's text input have them.
+#![tactic(auto)]
+
 ghost use Rattle.std.specs.Prelude.{◌≡◌, ◌+◌, ◌≤◌, ◌<◌, length};
 ghost use Rattle.text_numbers.specs.Numbers.{digit, digits_at, number_at, signed};
 

@@ -1,4 +1,6 @@
 // The lines of the certify program's text input, read into lent buffers.
+#![tactic(auto)]
+
 pub mod lines;
 
 // The most numbers of each word on all its lines.

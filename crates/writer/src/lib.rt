@@ -1,4 +1,6 @@
 // Words and numbers written one behind another into a line of fixed room. What has no room is left out.
+#![tactic(auto)]
+
 ghost use Rattle.std.specs.Prelude.{cond, ◌≡◌, ◌++◌, ◌-◌, ◌≤◌, length, take, drop};
 ghost use Rattle.answer_line.specs.Line.{decimal};
 ghost use Rattle.writer.specs.Writing.{Started, Said};

@@ -1,4 +1,6 @@
 // Families 1 to 4 and 27: the constants of the rows of a zone and of a pair of zones.
+#![tactic(auto)]
+
 ghost use Rattle.std.specs.Prelude.{◌≡◌, ◌<◌};
 ghost use Rattle.sums.specs.Span.{fine};
 ghost use Rattle.model.specs.Counts.{slices_of};
