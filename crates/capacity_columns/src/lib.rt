@@ -30,7 +30,7 @@ use tables::sets::slices_of;
 use tables::starts::Starts;
 
 // The numbers of a plant that are its capacity's coefficients in every slice, and whether it is VRE or a battery.
-#[derive(Drop)]
+#[derive(Clone, Copy)]
 pub struct Rates {
     pub load: u64,
     pub offer: u64,

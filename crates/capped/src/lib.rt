@@ -21,7 +21,7 @@ const HALF: u64 = 0x7fff_ffff;
 // The bits of a word.
 const WORD: u32 = 64;
 
-#[derive(Drop)]
+#[derive(Clone, Copy)]
 pub enum Sum {
     Exact(u64),
     Over,

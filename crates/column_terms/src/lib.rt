@@ -8,7 +8,7 @@ pub mod readers;
 use capped::Sum;
 
 // A column's positive and negative terms m·a, summed apart.
-#[derive(Drop)]
+#[derive(Clone, Copy)]
 pub struct Pair {
     pub up: Sum,
     pub down: Sum,

@@ -10,14 +10,14 @@ ghost use Rattle.compared.specs.Compared.{order, over, told, net_of};
 use capped::{LIMIT, Sum};
 
 // What a sum comes to.
-#[derive(Drop)]
+#[derive(Clone, Copy)]
 pub enum Amount {
     Exactly(u64),
     Above,
 }
 
 // How two sums compare. Of two that are over nothing is known.
-#[derive(Drop)]
+#[derive(Clone, Copy)]
 pub enum Order {
     Less,
     Equal,
@@ -26,7 +26,7 @@ pub enum Order {
 }
 
 // What is left when one sum is taken from others. It may be above the limit.
-#[derive(Drop)]
+#[derive(Clone, Copy)]
 pub enum Balance {
     Is(u64),
     BelowZero,

@@ -30,7 +30,7 @@ use tables::sets::{
 const MOST_MULTIPLIER: u64 = 0x100_0000_0000;
 
 // The size of a multiplier above zero, and its size below zero; one of the two is 0.
-#[derive(Drop)]
+#[derive(Clone, Copy)]
 pub struct Multiplier {
     pub up: u64,
     pub down: u64,

@@ -26,7 +26,7 @@ use tables::sets::{box_of, family_at};
 use tables::starts::Starts;
 
 // The terms m·k of rows: those above zero and those below, summed apart.
-#[derive(Drop)]
+#[derive(Clone, Copy)]
 pub struct BySign {
     pub up: Sum,
     pub down: Sum,

@@ -16,7 +16,7 @@ use tables::sets::{box_of, family_at, shape_of};
 use tables::starts::{column_box, column_starts, table_box, table_starts};
 
 // A slice by its season, its day of the season and its hour of the day, each counted from 0.
-#[derive(Drop)]
+#[derive(Clone, Copy)]
 pub struct Slice {
     pub season: usize,
     pub day: usize,

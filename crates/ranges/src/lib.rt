@@ -15,7 +15,7 @@ use tables::names::{
 use tables::plants::is_existing;
 use tables::starts::Starts;
 
-#[derive(Drop)]
+#[derive(Clone, Copy)]
 pub struct Range {
     pub least: u32,
     pub most: u32,

@@ -9,7 +9,7 @@ use capped::Sum;
 use constants::{Constant, netted};
 
 // A row's positive and negative terms, summed apart.
-#[derive(Drop)]
+#[derive(Clone, Copy)]
 pub struct Sides {
     pub above: Sum,
     pub below: Sum,

@@ -7,7 +7,7 @@ ghost use Rattle.text_numbers.specs.Numbers.{digit, digits_at, number_at, signed
 const SPACE: u8 = 32;
 
 // A number that was read, or none.
-#[derive(Drop)]
+#[derive(Clone, Copy)]
 pub enum Number {
     Value(u64),
     NoNumber,

@@ -14,7 +14,7 @@ pub const ROOM: usize = 1024;
 const SLASH: u8 = 47;
 
 // A part of a list: from a place up to the place before the end.
-#[derive(Drop)]
+#[derive(Clone, Copy)]
 pub struct Part {
     pub from: usize,
     pub end: usize,
