@@ -18,7 +18,7 @@ PATH = re.compile(r"(?<![^\s(){}\[\],;:=λ])(" + NAME + r")((?:\.(?:«[^»]*»|[
 
 
 def norm(name):
-    return name.replace("_", "-").replace("«", "").replace("»", "")
+    return name.replace("_", "-").replace("«", "").replace("»", "").lower()
 
 
 def blocks(text):
@@ -230,6 +230,7 @@ def turn(crate, folder, d):
             body = "\n".join(lines)
             body = re.sub(r"(?m)^" + re.escape(name) + r"( c)?( κs)?(?=\s)", lambda m: new + (m[1] or ""), body)
             body = turn_paths(body, places, start, said)
+            body = body.replace(".type-inv", ".type_inv").replace(".well-formed", ".well_formed")
             ans_out.append("\n".join(com + [f"pub {new} : goal.{new}"] + unfolding + [body]))
         else:
             helpers.append((name, "\n".join(com + parts)))
