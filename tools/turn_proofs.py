@@ -18,7 +18,8 @@ PATH = re.compile(r"(?<![^\s(){}\[\],;:=λ])(" + NAME + r")((?:\.(?:«[^»]*»|[
 
 
 def norm(name):
-    return name.replace("_", "-").replace("«", "").replace("»", "").lower()
+    name = name.replace("_", "-").replace("«", "").replace("»", "").lower()
+    return name[:-4] if name.endswith("-lem") else name
 
 
 def blocks(text):
@@ -50,7 +51,9 @@ class Places:
             arm = self.arms[i]
             if not arm or not self.below(p, q):
                 continue
-            for new, old, path in arm[2]:
+            for new, old, path in sorted(arm[2], key=lambda it: -len(it[2])):
+                if not path and fields and fields[0] in ("rest", "key") and norm(old) == norm(step):
+                    return [arm[0], new] + fields
                 if norm(old) == norm(step) and path and fields[: len(path)] == path:
                     return [arm[0], new] + fields[len(path) :]
         return None
