@@ -191,7 +191,10 @@ def turn(crate, folder, d):
     groups = []
     for com, it in items:
         m = re.match(r"(?:abbrev pub |abbrev |pub |unfoldable pub |unfoldable )?(" + NAME + r") :\s", it)
-        if m and not it.startswith(("unfolding ",)):
+        rules = re.match(r"(?:pub )?ruleset (\S+) =", it)
+        if rules:
+            groups.append([rules[1], com, [it]])
+        elif m and not it.startswith(("unfolding ",)):
             groups.append([m[1], com, [it]])
         elif groups:
             groups[-1][2] += com + [it]
