@@ -1,0 +1,17 @@
+use Rattle.capacity_columns.specs.Groups.{rates_of}
+use borrow.Author.Rules.{rules}
+use Rattle.capacity_columns.proofs.rates_of.Goals as goal
+
+pub returns : goal.returns
+unfolding rates_of
+returns d =
+    let c = d.before in
+    rw (
+      c.by_plant.ensures.0,
+      c.by_plant-2.ensures.0,
+      c.by_plant-3.ensures.0,
+      c.by_plant-4.ensures.0,
+      c.by_plant-5.ensures.0,
+      c.is_vre.ensures,
+      d.is-battery.ensures,
+    )
