@@ -4,8 +4,7 @@ use Rattle.capacity_columns.proofs.rates_of.Goals as goal
 
 pub returns : goal.returns
 unfolding rates_of
-returns d =
-    let c = d.before in
+returns c =
     rw (
       c.by_plant.ensures.0,
       c.by_plant-2.ensures.0,
@@ -13,5 +12,5 @@ returns d =
       c.by_plant-4.ensures.0,
       c.by_plant-5.ensures.0,
       c.is_vre.ensures,
-      d.is-battery.ensures,
+      c.is_battery.ensures,
     )

@@ -19,13 +19,12 @@ add_row_if-requires c =
     let p = c.requires in λ _. plant-row p.0 p.1 (omega arith) refl
 
 pub returns : goal.returns
-returns d =
-    let c = d.before.before in
+returns c =
     let a = c.args in
     let n = c.requires.0.tables_at.counts in
     let zone = c.gen_in_zone-zone.ensures in
     let load = c.gen_in_load-load.ensures in
     let ramps = c.in_ramps-ramps.ensures in
     let three = join-priced (join-priced (record { is = zone }) (record { is = load }) c.join.ensures) (record { is = ramps }) c.join-p.ensures in
-    priced-as (add-priced-if three _ d.add-row-if.ensures)
-    _ _ (λ m. rw d.before.is-battery.ensures (gen-together⁺ (read a.«data».now) a.y a.g m a.s n)) (λ m. gen-together⁻ (read a.«data».now) a.y a.g m a.s n)
+    priced-as (add-priced-if three _ c.add_row_if.ensures)
+    _ _ (λ m. rw c.is_battery.ensures (gen-together⁺ (read a.«data».now) a.y a.g m a.s n)) (λ m. gen-together⁻ (read a.«data».now) a.y a.g m a.s n)
