@@ -99,7 +99,7 @@ def turn_paths(body, places, start, said, binder="c"):
         if fields and (fields[0] in ("pre", "fits")):
             fields[0] = OLD_WORDS[fields[0]]
         tested = lambda k: fields[k] not in ("taken", "left") or fields[k - 1].startswith("if") or fields[k - 1].endswith("test")
-        fields = [OLD_WORDS.get(f, f) if f not in ("fits", "pre") and k and tested(k) else f for k, f in enumerate(fields)]
+        fields = [OLD_WORDS.get(f, f) if f not in ("fits", "pre") and k == 1 and tested(k) else f for k, f in enumerate(fields)]
         fields = ["requires" if f == "pre" and all(g == "before" for g in fields[:k]) else f for k, f in enumerate(fields)]
         if not fields:
             if name == binder:
