@@ -1,0 +1,8 @@
+use Rattle.writer.proofs.Laws.{said-joined}
+use Rattle.sentences.specs.Sentences.{storage_words}
+use borrow.Author.Rules.{rules}
+use Rattle.entry_words.proofs.say_storage.Goals as goal
+
+pub returns : goal.returns
+unfolding storage_words
+returns c = said-joined c.say_counted-named.ensures c.say.ensures

@@ -1,0 +1,11 @@
+use Rattle.writer.proofs.Laws.{said-joined}
+use Rattle.plain_words.specs.Plain.{accepted_words}
+use borrow.Author.Rules.{rules}
+use Rattle.plain_words.proofs.say_accepted.Goals as goal
+
+pub returns : goal.returns
+unfolding accepted_words
+returns c =
+    said-joined c.say_with-costed.ensures
+    (said-joined c.say_with-bound.ensures
+    c.say.ensures)

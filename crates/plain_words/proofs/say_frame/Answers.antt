@@ -1,0 +1,8 @@
+use Rattle.writer.proofs.Laws.{said-joined}
+use Rattle.plain_words.specs.Plain.{frame_words}
+use borrow.Author.Rules.{rules}
+use Rattle.plain_words.proofs.say_frame.Goals as goal
+
+pub returns : goal.returns
+unfolding frame_words
+returns c = said-joined c.say_with-numbered.ensures c.say.ensures
