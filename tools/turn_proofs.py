@@ -67,6 +67,9 @@ class Places:
         return False
 
 
+# Words of an older Rattle that port.py left in a path, as it saw no `c` there.
+OLD_WORDS = {"pre": "requires", "taken": "true", "left": "false", "inv": "invariant", "entry": "initial", "kept": "auto", "type-inv": "type_inv", "well-formed": "well_formed", "came": "branch", "fits": "ranges"}
+
 COMMON = {"args", "requires", "ranges", "well_formed", "type_inv", "lifetimes", "auto", "utf8"}
 
 
@@ -93,6 +96,10 @@ def turn_paths(body, places, start, said):
             return m[0]
         fields = re.findall(r"\.((?:«[^»]*»|[^\s(){}\[\].,;])+)", rest)
         p = alias[name]
+        if fields and (fields[0] in ("pre", "fits")):
+            fields[0] = OLD_WORDS[fields[0]]
+        fields = [OLD_WORDS.get(f, f) if f not in ("fits", "pre") and k else f for k, f in enumerate(fields)]
+        fields = ["requires" if f == "pre" and all(g == "before" for g in fields[:k]) else f for k, f in enumerate(fields)]
         if not fields:
             if name == "c":
                 return m[0]
@@ -122,6 +129,38 @@ def turn_paths(body, places, start, said):
         return "c." + ".".join(fields)
 
     return PATH.sub(one, body)
+
+
+BINDER = re.compile(r"λ\s*((?:\([^()]*\)\s*|" + NAME + r"\s*)+)\.")
+
+
+def substitute(text, table):
+    """The names of the table put in where no λ binds them. A λ reaches to the end of its bracket or to the next comma there."""
+    out, i, depth, bound = [], 0, 0, []
+    while i < len(text):
+        c = text[i]
+        m = BINDER.match(text, i)
+        if m:
+            names = set(re.findall(NAME, re.sub(r":[^()]*", " ", m[1])))
+            bound.append((depth, names))
+            out.append(m[0])
+            i = m.end()
+            continue
+        if c in "([{":
+            depth += 1
+        elif c in ")]},":
+            depth -= c != ","
+            while bound and (bound[-1][0] > depth or (c == "," and bound[-1][0] >= depth)):
+                bound.pop()
+        m = PATH.match(text, i) if i == 0 or text[i - 1] in " \n([{,;:=" or text[i - 1] == "λ" else None
+        if m:
+            free = not any(m[1] in names for _, names in bound)
+            out.append(table[m[1]] + m[2] if m[1] in table and free else m[0])
+            i = m.end()
+            continue
+        out.append(c)
+        i += 1
+    return "".join(out)
 
 
 def loop_fields(d, old):
@@ -211,11 +250,7 @@ def turn(crate, folder, d):
                 said.append(f"{name}: no loop {old}")
                 table, label = {}, f"{kind}-{old}" if old else kind
             table = {k: re.sub(r"\.(data|record|open|module|in|as|do|let|use|type)$", r".«\1»", v) for k, v in table.items()}
-
-            def put(m):
-                return table[m[1]] + m[2] if m[1] in table else m[0]
-
-            rest = PATH.sub(put, rest)
+            rest = substitute(rest, table)
             inv_out.append("\n".join(com + [f"abbrev pub {label} : goal.{label}", f"{label} l = {rest}"]))
         elif name in answers:
             i = answers.index(name)
@@ -233,6 +268,8 @@ def turn(crate, folder, d):
             body = "\n".join(lines)
             body = re.sub(r"(?m)^" + re.escape(name) + r"( c)?( κs)?(?=\s)", lambda m: new + (m[1] or ""), body)
             body = turn_paths(body, places, start, said)
+            # The test of an `if !b` says `b ≡ false` today, where it said `not b ≡ true`.
+            body = re.sub(r"\bnot-(?:true|false) " + NAME + r"(?:\.[^\s()]+)* (c(?:\.[^\s()]+)*\.(?:true|false))", r"\1", body)
             body = body.replace(".type-inv", ".type_inv").replace(".well-formed", ".well_formed")
             ans_out.append("\n".join(com + [f"pub {new} : goal.{new}"] + unfolding + [body]))
         else:
@@ -252,7 +289,7 @@ def turn(crate, folder, d):
     if inv_out:
         t = []
         for h in in_inv:
-            t.append(re.sub(r"^(abbrev |unfoldable )?(?!pub )(?=" + re.escape(h[0]) + r")", lambda m: (m[1] or "") + "pub ", h[1], flags=re.M) if "pub" not in h[1].split(h[0])[0] else h[1])
+            t.append(re.sub(r"^(abbrev |unfoldable )?(?!pub )(?=" + re.escape(h[0]) + r" :\s)", lambda m: (m[1] or "") + "pub ", h[1], count=1, flags=re.M))
         with open(os.path.join(folder, "Invariants.antt"), "w", encoding="utf-8") as f:
             f.write("\n".join(uses + [f"use {module}.Given as goal"]) + "\n\n" + "\n\n".join(t + inv_out) + "\n")
     if ans_out:

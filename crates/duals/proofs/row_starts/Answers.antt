@@ -23,7 +23,7 @@ loop-k-preserved c =
     let h = c.requires in
     let few = c.loop-k-test.true in
     let e = start-next h few l.invariant.2 in
-    (search rules, simp length-set l.invariant.1, e, omega (arith, few-rows h few), stored l.rows_at (λ i. start (row_boxes c.args.t1.counts) i) (omega arith) l.invariant.4 e)
+    (search rules, simp length-set l.invariant.1, e, omega (arith, few-rows h few), stored l.rows_at (λ i. start (row_boxes c.args.shape.counts) i) (omega arith) l.invariant.4 e)
 
 pub returns : goal.returns
 returns c =

@@ -12,23 +12,7 @@ use Rattle.model.specs.Tests.{unless}
 use Rattle.tables.specs.Layout.{outcome}
 use Rattle.tables.proofs.Walk.{Reached, begun, turned, ended}
 use Rattle.duals.proofs.Laws.{row_fault, family_fault, all-multipliers, start-next, family-row, family-faults, tested}
-use Rattle.duals.proofs.test_ranges.Reads as reads
-use Rattle.duals.proofs.test_ranges.Lts as lts
-use Rattle.duals.proofs.in_range.Reads as in-range-reads
-use Rattle.duals.proofs.multiplier_in.Reads as multiplier-in-reads
-use Rattle.tables.proofs.sets.family_at.Reads as family-at-reads
 use Rattle.duals.proofs.test_ranges.Goals as goal
-
--- the row under test is one of the rows
-below :
-    (c :
-    lts.In-loop (family-at-reads.Asked, family-at-reads.Learnt, multiplier-in-reads.Asked, multiplier-in-reads.Learnt, in-range-reads.Asked, in-range-reads.Learnt)
-    reads.Pre reads.Post invariant-loop decreases-loop invariant-walk decreases-walk)
-    → c.before.loop.row < length c.before.before.before.before.before.before.args.ms.now
-below c =
-    let w = c.before.before.before.before in
-    let h = w.before.before.requires in
-    rw c.before.loop.invariant.here (family-row h.0 h.1 w.walk-test.true c.loop-test.true)
 
 pub walk-init : goal.walk-init
 unfolding sum
@@ -40,20 +24,21 @@ loop-i-init c =
     begun w.going (omega (arith, w.here))
 
 pub multiplier_in-m-requires : goal.multiplier_in-m-requires
-multiplier_in-m-requires c = below c
+-- the row under test is one of the rows
+multiplier_in-m-requires c = rw c.loop-i.invariant.here (family-row c.requires.0 c.requires.1 c.walk-test.true c.loop-i-test.true)
 
 pub overflow_add-row : goal.overflow_add-row
-overflow_add-row c = record { fits = omega (arith, below c.before.before.before) }
+overflow_add-row c = let below : c.loop-i.row < length c.args.ms.now = rw c.loop-i.invariant.here (family-row c.requires.0 c.requires.1 c.walk-test.true c.loop-i-test.true) in record { fits = omega arith }
 
 pub overflow_step-i : goal.overflow_step-i
-overflow_step-i c = record { fits = omega (arith, below c.before.before.before) }
+overflow_step-i c = let below : c.loop-i.row < length c.args.ms.now = rw c.loop-i.invariant.here (family-row c.requires.0 c.requires.1 c.walk-test.true c.loop-i-test.true) in record { fits = omega arith }
 
 pub loop-i-preserved : goal.loop-i-preserved
 unfolding unless
 loop-i-preserved c =
     let v = c.loop-i in
     let row = tested c.args.ms.now c.family_at-f.result.equal v.row c.multiplier_in-m.ensures c.in_range.ensures in
-    turned v.invariant c.loop-i-test.true v.invariant.going (rw (← v.invariant.here) (row ∙ rw (not-false c.in_range.result c.if-not-in_range.false))) (omega (arith, v.invariant.here))
+    turned v.invariant c.loop-i-test.true v.invariant.going (rw (← v.invariant.here) (row ∙ rw (c.if-not-in_range.false))) (omega (arith, v.invariant.here))
 
 pub walk-preserved : goal.walk-preserved
 walk-preserved c =
@@ -79,4 +64,4 @@ returns-then-not-in_range c = λ D e.
     ∙ upto-stop _ _ _ c.walk-test.true c.walk.invariant.so
     (family-faults ms c.requires.0 c.walk-test.true c.family_at-f.ensures
     ∙ upto-stop _ _ _ c.loop-i-test.true v.invariant.so
-    (rw (← v.invariant.here) (row ∙ rw (not-true c.in_range.result c.if-not-in_range.true))))))
+    (rw (← v.invariant.here) (row ∙ rw (c.if-not-in_range.true))))))

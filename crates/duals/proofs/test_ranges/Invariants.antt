@@ -12,11 +12,6 @@ use Rattle.model.specs.Tests.{unless}
 use Rattle.tables.specs.Layout.{outcome}
 use Rattle.tables.proofs.Walk.{Reached, begun, turned, ended}
 use Rattle.duals.proofs.Laws.{row_fault, family_fault, all-multipliers, start-next, family-row, family-faults, tested}
-use Rattle.duals.proofs.test_ranges.Reads as reads
-use Rattle.duals.proofs.test_ranges.Lts as lts
-use Rattle.duals.proofs.in_range.Reads as in-range-reads
-use Rattle.duals.proofs.multiplier_in.Reads as multiplier-in-reads
-use Rattle.tables.proofs.sets.family_at.Reads as family-at-reads
 use Rattle.duals.proofs.test_ranges.Given as goal
 
 abbrev pub invariant-loop-i : goal.invariant-loop-i

@@ -7,9 +7,9 @@ use Rattle.fleet_constants.proofs.level_limit_constant.Goals as goal
 
 pub returns-then-not-is_battery : goal.returns-then-not-is_battery
 unfolding constant_of
-returns-then-not-is_battery c = rw (← c.is_battery.ensures, not-true c.is_battery.result c.if-not-is_battery.true)
+returns-then-not-is_battery c = rw (← c.is_battery.ensures, c.if-not-is_battery.true)
 
 pub returns : goal.returns
 unfolding constant_of
 returns c =
-    rw (← c.is_battery.ensures, not-false c.is_battery.result c.if-not-is_battery.false) (constant-is c.by_plant.ensures.0 refl)
+    rw (← c.is_battery.ensures, c.if-not-is_battery.false) (constant-is c.by_plant.ensures.0 refl)

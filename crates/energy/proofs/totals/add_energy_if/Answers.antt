@@ -10,7 +10,7 @@ use Rattle.energy.proofs.Laws.{all_more, all_done}
 use Rattle.energy.proofs.totals.add_energy_if.Goals as goal
 
 pub returns-then-not-here : goal.returns-then-not-here
-returns-then-not-here c = rw (not-true c.args.here c.if-not-here.true)
+returns-then-not-here c = rw (c.if-not-here.true)
 
 pub loop-q-init : goal.loop-q-init
 unfolding all_if
@@ -27,5 +27,5 @@ returns c =
     let a = c.args in
     let k : l.q ≡ a.c.seasons = omega arith in
     c.join.ensures
-    ∙ rw (not-false a.here c.if-not-here.false)
+    ∙ rw (c.if-not-here.false)
     (ap (both a.total) (all_done (λ i. true) (λ i. times (energy_at a.c a.energy.now a.y a.g i) a.factor) l.invariant.1 k))

@@ -14,10 +14,10 @@ use Rattle.energy.proofs.totals.burned.Given as goal
 
 -- whether plant g is of the zone and the fuel, and what it adds
 abbrev pub burns : List ℕ → ℕ → ℕ → ℕ → Bool
-pub burns «data» z f g = eqb (zone (read «data») g) z && eqb (fuel (read «data») g) f
+burns «data» z f g = eqb (zone (read «data») g) z && eqb (fuel (read «data») g) f
 
 abbrev pub burned_by : List ℕ → Counts → List (List ℕ) → ℕ → ℕ → Sum
-pub burned_by «data» c energy y g = year_energy c energy (heat_rate (read «data») g) y g
+burned_by «data» c energy y g = year_energy c energy (heat_rate (read «data») g) y g
 
 abbrev pub invariant-loop-g : goal.invariant-loop-g
 invariant-loop-g l = (l.g ≤ l.c.plants) × (l.total ≡ all_if l.g (burns l.«data» l.z l.f) (burned_by l.«data» l.c l.energy l.y))

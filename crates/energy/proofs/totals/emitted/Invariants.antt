@@ -13,7 +13,7 @@ use Rattle.energy.proofs.totals.emitted.Given as goal
 
 -- what plant g adds
 abbrev pub emitted_by : List ℕ → Counts → List (List ℕ) → ℕ → ℕ → Sum
-pub emitted_by «data» c energy y g = year_energy c energy (emission (read «data») g) y g
+emitted_by «data» c energy y g = year_energy c energy (emission (read «data») g) y g
 
 abbrev pub invariant-loop-g : goal.invariant-loop-g
 invariant-loop-g l = (l.g ≤ l.c.plants) × (l.total ≡ all_of l.g (emitted_by l.«data» l.c l.energy l.y))

@@ -14,10 +14,10 @@ use Rattle.energy.proofs.totals.emitted_in.Given as goal
 
 -- whether plant g is in the zone, and what it adds
 abbrev pub lies : List ℕ → ℕ → ℕ → Bool
-pub lies «data» z g = eqb (zone (read «data») g) z
+lies «data» z g = eqb (zone (read «data») g) z
 
 abbrev pub emitted_by : List ℕ → Counts → List (List ℕ) → ℕ → ℕ → Sum
-pub emitted_by «data» c energy y g = year_energy c energy (emission (read «data») g) y g
+emitted_by «data» c energy y g = year_energy c energy (emission (read «data») g) y g
 
 abbrev pub invariant-loop-g : goal.invariant-loop-g
 invariant-loop-g l = (l.g ≤ l.c.plants) × (l.total ≡ all_if l.g (lies l.«data» l.z) (emitted_by l.«data» l.c l.energy l.y))

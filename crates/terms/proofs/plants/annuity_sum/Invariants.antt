@@ -11,7 +11,7 @@ use Rattle.terms.proofs.plants.annuity_sum.Given as goal
 abbrev pub invariant-loop-g : goal.invariant-loop-g
 invariant-loop-g l = Summed
     l.c.plants
-    (λ g. on (candidate (read l.«data») l.g) (rate (read l.«data») l.y * weight (read l.«data») l.y * annuity (read l.«data») l.y l.g * plan_entry l.c l.plan (cap l.y l.g)))
+    (λ g. on (candidate (read l.«data») g) (rate (read l.«data») l.y * weight (read l.«data») l.y * annuity (read l.«data») l.y g * plan_entry l.c l.plan (cap l.y g)))
     l.g
     l.total
 

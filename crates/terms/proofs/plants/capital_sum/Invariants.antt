@@ -12,7 +12,7 @@ use Rattle.terms.proofs.plants.capital_sum.Given as goal
 abbrev pub invariant-loop-y : goal.invariant-loop-y
 invariant-loop-y l = Summed
     l.c.years
-    (λ y. sum l.c.plants (λ g. on (candidate (read l.«data») g) (rate (read l.«data») l.y * weight (read l.«data») l.y * annuity (read l.«data») l.y g * plan_entry l.c l.plan (cap l.y g))))
+    (λ y. sum l.c.plants (λ g. on (candidate (read l.«data») g) (rate (read l.«data») y * weight (read l.«data») y * annuity (read l.«data») y g * plan_entry l.c l.plan (cap y g))))
     l.y
     l.total
 

@@ -10,7 +10,7 @@ use borrow.Author.Rules.{rules}
 use Rattle.terms.proofs.plants.credit_sum.Given as goal
 
 abbrev pub invariant-loop-g : goal.invariant-loop-g
-invariant-loop-g l = Summed l.c.plants (λ g. on (eqb (zone (read l.«data») l.g) l.z) (cap_credit (read l.«data») l.g * plan_entry l.c l.plan (cap l.y l.g))) l.g l.total
+invariant-loop-g l = Summed l.c.plants (λ g. on (eqb (zone (read l.«data») g) l.z) (cap_credit (read l.«data») g * plan_entry l.c l.plan (cap l.y g))) l.g l.total
 
 abbrev pub decreases-loop-g : goal.decreases-loop-g
 decreases-loop-g l = l.c.plants - l.g

@@ -13,7 +13,7 @@ use Rattle.terms.proofs.plants.vre_sum.Given as goal
 abbrev pub invariant-loop-g : goal.invariant-loop-g
 invariant-loop-g l = Summed
     l.c.plants
-    (λ g. on (eqb (zone (read l.«data») l.g) l.z) (on (is_vre (read l.«data») l.g) (l.err * get_or l.part (l.g * slices_of l.c + l.s) 0)))
+    (λ g. on (eqb (zone (read l.«data») g) l.z) (on (is_vre (read l.«data») g) (l.err * get_or l.part (g * slices_of l.c + l.s) 0)))
     l.g
     l.total
 
