@@ -186,12 +186,15 @@ def turn(crate, folder, d):
         else:
             items.append((comment, "\n".join(b).rstrip()))
             comment = []
-    uses = [u for u in uses if ".Statement.{" not in u and not re.search(r"\.Tie( as tie)?$", u)]
+    uses = [u for u in uses if ".Statement.{" not in u and not re.search(r"\.(Tie|Reads|Lts|Kinds)( as \S+)?$", u)]
     # Group an item's lines under its name: the signature, then `unfolding`, then the clauses.
     groups = []
     for com, it in items:
         m = re.match(r"(?:abbrev pub |abbrev |pub |unfoldable pub |unfoldable )?(" + NAME + r") :\s", it)
-        if m and not it.startswith(("unfolding ",)):
+        rules = re.match(r"(?:pub )?ruleset (\S+) =", it)
+        if rules:
+            groups.append([rules[1], com, [it]])
+        elif m and not it.startswith(("unfolding ",)):
             groups.append([m[1], com, [it]])
         elif groups:
             groups[-1][2] += com + [it]
@@ -220,6 +223,20 @@ def turn(crate, folder, d):
         print(f"left: {path}: {len(answers)} answers for {len(needs)} goals: {[n[0] for n in needs]}")
         return False
     inv_out, ans_out, helpers = [], [], []
+    # A fact that several answers share, stated of a place of the walk: it is put into each of them.
+    shared = {}
+    for name, com, parts in groups:
+        m = re.search(r"\blts\.(\S+)", types[name])
+        if m and name not in order and (not spec or name != spec[0]):
+            place = next((p for p in places.at if norm(p) == norm(m[1])), None)
+            claim = parts[0].rsplit("→", 1)[1].strip()
+            body = "\n".join(parts[1:])
+            body = re.sub(r"^" + re.escape(name) + r" c =\s*", "", body.strip())
+            if place is None:
+                said.append(f"{name}: no place {m[1]}")
+                continue
+            shared[name] = (turn_paths(claim, places, place, said), turn_paths(body, places, place, said))
+    groups = [g for g in groups if g[0] not in shared and not re.match(r"abbrev here : ", types[g[0]])]
     for name, com, parts in groups:
         if spec and name == spec[0]:
             continue
@@ -267,6 +284,12 @@ def turn(crate, folder, d):
                     unfolding.append(lines.pop(0))
             body = "\n".join(lines)
             body = re.sub(r"(?m)^" + re.escape(name) + r"( c)?( κs)?(?=\s)", lambda m: new + (m[1] or ""), body)
+            for s, (claim, proof) in shared.items():
+                use = re.compile(r"\(?\b" + re.escape(s) + r" c(?:\.before)*(?![.\w])\)?")
+                if use.search(body):
+                    body = re.sub(re.escape(s) + r" c(?:\.before)*(?![.\w])", s, body)
+                    head, rest = body.split("=", 1)
+                    body = f"{head}= let {s} : {claim} = {proof} in {rest.strip()}"
             body = turn_paths(body, places, start, said)
             # The test of an `if !b` says `b ≡ false` today, where it said `not b ≡ true`.
             body = re.sub(r"\bnot-(?:true|false) " + NAME + r"(?:\.[^\s()]+)* (c(?:\.[^\s()]+)*\.(?:true|false))", r"\1", body)
