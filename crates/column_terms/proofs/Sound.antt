@@ -44,7 +44,7 @@ module _ {l tables-at : List ℕ} {c : Counts} (n : TablesAt l tables-at c) (sou
   unfolding table_boxes
   few-loss {y} {z} {w} hy hz hw = (entry-range (read l) sound 30 y z w 0 (omega arith, rw n.counts hy, rw n.counts hz, rw n.counts hw, omega arith)).1
 
-  -- R-as-V
+  -- R·V
   pub few-weights : {y : ℕ} → y < c.years → rate (read l) y * weight (read l) y ≤ 20000
   unfolding table_boxes
   few-weights {y} hy =

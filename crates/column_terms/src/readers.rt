@@ -72,7 +72,7 @@ pub fn available_hours(data: &[u32], tables_at: &Starts, c: Counts, g: usize, q:
     by_plant_season(data, tables_at, c, AVAILABILITY, g, q) * season_hours(data, tables_at, c, q)
 }
 
-// R.V.Annuity, family 18.
+// R·V·Annuity, family 18.
 pub fn weighted_annuity(data: &[u32], tables_at: &Starts, c: Counts, y: usize, g: usize) -> u64
     requires { TablesAt «data».now tables_at.now c × ((entries_fault (read «data».now) ≡ fine) × ((y < c.years) × (g < c.plants))) }
     ensures { result ≡ rate (read «data».now) y * weight (read «data».now) y * annuity (read «data».now) y g }

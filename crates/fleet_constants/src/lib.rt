@@ -48,7 +48,7 @@ pub fn new_capacity_constant(data: &[u32], tables_at: &Starts, c: Counts, g: usi
     }
 }
 
-// 16, candidate: BuildLimit.V
+// 16, candidate: BuildLimit·V
 pub fn yearly_build_constant(
     data: &[u32],
     tables_at: &Starts,

@@ -139,7 +139,7 @@ pub fn new_capacity(
     )
 }
 
-// 16 (58), candidate: build ≤ BuildLimit.V
+// 16 (58), candidate: build ≤ BuildLimit·V
 pub fn yearly_build(
     data: &[u32],
     plan: &[u32],

@@ -1,3 +1,4 @@
+pub mod Station
 pub mod Lengths
 pub mod Members
 pub mod Within

@@ -8,9 +8,11 @@ use Rattle.model.specs.Data.{read}
 use Rattle.model.specs.Columns.{entries}
 use Rattle.model.specs.Tests.{scale_fault, plan_length_fault}
 use Rattle.model.specs.Calls.{cost_of}
-use Rattle.model.specs.Claims.{AtScaleOne, SharpBound}
+use Rattle.model.specs.Station.{station, first_case, plan_of, multipliers_of}
+use Rattle.model.specs.Claims.{AtScaleOne, SharpBound, SharpStation}
 use Rattle.model.proofs.Sound.{passed, in-range}
 use Rattle.model.proofs.Demand.{answered, meets-all}
+use Rattle.model.proofs.Station.{first-answer}
 
 pub at-scale-one : AtScaleOne
 at-scale-one D N c g bounds x r = omega (arith, bounds 1 (omega arith) x r)
@@ -26,3 +28,6 @@ sharp-bound l N plan ms c e =
       reached = rw a.cost-is (omega arith);
       highest = λ bounds. omega (arith, scale, ap (λ (v : ℕ). N * v) a.cost-is, mul-add N c 1, bounds N (omega arith) (entries (read l) plan) meets);
     }
+
+pub sharp-station : SharpStation
+sharp-station = record { answered = first-answer; sharp = sharp-bound station 1 (plan_of first_case) (multipliers_of first_case) 40000000000 first-answer }

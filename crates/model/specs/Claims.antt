@@ -1,5 +1,5 @@
 -- What is proved of the definitions, as statements; the proofs are in proofs/.
--- Beside these: Printed.antt (each family reads as documents 01 and 02 print it) and Standing.antt (the rows of each kind of column). The ten cases of the one-plant station are the crate `station`.
+-- Beside these: Printed.antt (each family reads as documents 01 and 02 print it) and Standing.antt (the rows of each kind of column).
 use Rattle.std.specs.Prelude.{◌≡◌, Bool, false, true, ◌&&◌, List, map, ℕ, ◌+◌, ◌*◌, ◌-◌, ◌≤◌, ◌<◌, ℤ, pos, ◌-ℤ◌, ◌*ℤ◌, ◌≤ℤ◌}
 use Rattle.sums.specs.Sum.{sum}
 use Rattle.sums.specs.Span.{listing, up_from, total, fine, fault}
@@ -20,7 +20,16 @@ use Rattle.model.specs.Tests.{head_fault, counts_fault, length_fault, entries_fa
 use Rattle.model.specs.Prices.{year_weight, price, cost}
 use Rattle.model.specs.Calls.{check, certify, cost_of, post, posted}
 use Rattle.model.specs.Rival.{Rival, Bounds, Binds, RivalPlan, Cheaper}
+use Rattle.model.specs.Station.{Case, run, cases, first_case, station, plan_of, multipliers_of}
 use Rattle.model.specs.Standing.{Placed}
+
+-- the ten cases of the one-plant station, over certify itself
+abbrev pub TenCases : Type 0
+TenCases = map run cases ≡ map (λ (k : Case). k.outcome) cases
+
+-- the first of them as the answer itself
+abbrev pub FirstAnswer : Type 0
+FirstAnswer = certify station first_case.scale (plan_of first_case) (multipliers_of first_case) ≡ Issued 40000000000 0
 
 -- demand 3: whatever certify answers, where it issues a certificate this binds every rival plan at every scale
 abbrev pub Demand3 : Type 0
@@ -56,6 +65,11 @@ pub record Sharp (l : List ℕ) (N : ℕ) (plan : List ℕ) (c g : ℕ) : Type 0
 -- so it is wherever the answered gap is 0
 abbrev pub SharpBound : Type 0
 SharpBound = (l : List ℕ) (N : ℕ) (plan : List ℕ) (ms : List ℤ) (c : ℕ) → certify l N plan ms ≡ Issued c 0 → Sharp l N plan c 0
+
+-- and such an answer is given: at the station's first case, with N = 1
+pub record SharpStation : Type 0 where
+  pub answered : FirstAnswer
+  pub sharp : Sharp station 1 (plan_of first_case) 40000000000 0
 
 -- the answered gap is cost + N·Σ m·k with nothing cut off
 abbrev pub WholeGap : Type 0

@@ -198,7 +198,7 @@ pub fn family_at(k: usize) -> Family
     FAMILIES[k]
 }
 
-// S = Q.D.T
+// S = Q·D·T
 pub fn slices_of(c: Counts) -> usize
     requires { Counted c }
     ensures { (result ≡ slices_of c) × (result ≤ 384) }

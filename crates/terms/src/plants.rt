@@ -107,7 +107,7 @@ pub fn annuity_sum(
     total
 }
 
-// W = R.V
+// W = R·V
 pub fn year_weight(data: &[u32], tables_at: &Starts, c: Counts, y: usize) -> u64
     requires { TablesAt «data».now tables_at.now c × (y < c.years) }
     ensures { result ≡ rate (read «data».now) y * weight (read «data».now) y }

@@ -38,7 +38,7 @@ fn rates_of(data: &[u32], tables_at: &Starts, c: Counts, y: usize, z: usize) -> 
     }
 }
 
-// 1: − Demand.EE
+// 1: − Demand·EE
 pub fn balance_constant(
     data: &[u32],
     tables_at: &Starts,

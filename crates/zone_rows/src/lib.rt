@@ -28,7 +28,7 @@ use tables::starts::Starts;
 use terms::plants::{credit_sum, vre_sum, zone_sum};
 use zone_constants::{balance_constant, firm_constant, spinning_constant, transfer_constant};
 
-// 1 (14): 1000·Σ gen in z − 1000·Σ charge in z − 1000·Σ trans[z,z2] + Σ (1000 − Loss[z2,z])·trans[z2,z] + unmet − surplus = Demand.EE
+// 1 (14): 1000·Σ gen in z − 1000·Σ charge in z − 1000·Σ trans[z,z2] + Σ (1000 − Loss[z2,z])·trans[z2,z] + unmet − surplus = Demand·EE
 pub fn balance(
     data: &[u32],
     plan: &[u32],

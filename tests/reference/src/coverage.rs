@@ -17,9 +17,6 @@ use crate::season_count::SeasonCount;
 use crate::storage_count::StorageCount;
 use std::fmt;
 
-/// So many seeds reach every answer: the test and the program both take them.
-pub const SEEDS: u64 = 4000;
-
 /// Every refusal by its number.
 fn refusals() -> Vec<u32> {
     (1..=REFUSAL_COUNT as u32).collect()

@@ -2,7 +2,9 @@
 //! row and as the first multiplier out of range, every table of columns as the first
 //! underpriced and every range of the data.
 
-use epm_reference::coverage::{measure, SEEDS};
+use epm_reference::coverage::measure;
+
+const SEEDS: u64 = 3000;
 
 #[test]
 fn every_answer_is_reached() {

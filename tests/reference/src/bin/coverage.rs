@@ -1,8 +1,10 @@
 //! Prints which answers the generated inputs reach; exit status 1 when a count
 //! is 0. The number of seeds may be given as the one argument.
 
-use epm_reference::coverage::{measure, SEEDS};
+use epm_reference::coverage::measure;
 use std::process::ExitCode;
+
+const SEEDS: u64 = 4000;
 
 fn main() -> ExitCode {
     let seeds = match std::env::args().nth(1) {

@@ -9,8 +9,8 @@ use Rattle.model.specs.Families.{family_of, row_boxes, equation}
 use Rattle.model.specs.Prices.{price, cost}
 use Rattle.model.specs.Tests.{unless, head_fault, count_fault, counts_fault, length_fault, entry_fault, entries_fault, plant_storage_fault, storage_fault, data_fault, scale_fault, plan_length_fault, constant⁺, constant⁻, above, below, row_fault, rows_fault, cost_fault, plan_fault, multiplier_count_fault, multiplier, multiplier_fault, priced⁺, priced⁻, column_fault, constants⁺, constants⁻, gap_fault, gap, multipliers_fault, columns_fault, dual_fault}
 use Rattle.model.specs.Calls.{check_fault, cost_of, certify_fault, gap_of, certify, code_of, certificate_code}
-use Rattle.station.specs.Station.{run}
-use Rattle.station.specs.Claims.{TenCases, FirstAnswer}
+use Rattle.model.specs.Station.{run}
+use Rattle.model.specs.Claims.{TenCases, FirstAnswer}
 
 -- worked out together
 worked-out : TenCases × FirstAnswer
