@@ -1,4 +1,6 @@
 // The answer of certify as a line of text: `A cost gap` or `R number place` in decimal, and a line feed.
+#![tactic(auto)]
+
 ghost use Rattle.std.specs.Prelude.{◌≡◌, ◌∷◌, [], ◌+◌, ◌≤◌, ◌<◌, length};
 ghost use Rattle.std.proofs.lemmas.List.Edits.{sets};
 ghost use Rattle.answer_line.specs.Line.{digit, decimal, line_with, line_of};

@@ -1,4 +1,6 @@
 // An answer of certify in words: its sentence.
+#![tactic(auto)]
+
 ghost use Rattle.std.specs.Prelude.{◌≡◌};
 ghost use Rattle.writer.specs.Writing.{Started, Said};
 ghost use Rattle.answer_words.specs.Asked.{Asked, AskedOf};

@@ -1,4 +1,6 @@
 // What post does after check: refusal 14, and the year's outputs on the board.
+#![tactic(auto)]
+
 ghost use Rattle.std.specs.Prelude.{◌≡◌, ℕ, length};
 ghost use Rattle.sums.specs.Span.{fine};
 ghost use Rattle.sums.specs.Index.{count};

@@ -1,4 +1,6 @@
 // The columns of the lines that are built between zones: built and total.
+#![tactic(auto)]
+
 ghost use Rattle.std.specs.Prelude.{◌≡◌, ◌≤◌, ◌<◌};
 ghost use Rattle.sums.specs.Linear.{nothing, ∑};
 ghost use Rattle.model.specs.Counts.{slices_of};

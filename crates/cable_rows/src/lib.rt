@@ -1,4 +1,6 @@
 // Families 26 to 28: the rows of the lines that are built between zones. The source prints them without numbers, after (15).
+#![tactic(auto)]
+
 ghost use Rattle.std.specs.Prelude.{◌≡◌, ℕ, ◌<◌};
 ghost use Rattle.model.specs.Data.{Data, read};
 ghost use Rattle.model.specs.Families.{row};

@@ -1,4 +1,6 @@
 // The columns cap, build and retire.
+#![tactic(auto)]
+
 ghost use Rattle.std.specs.Prelude.{◌≡◌, ◌<◌};
 ghost use Rattle.sums.specs.Index.{index};
 ghost use Rattle.sums.specs.Linear.{nothing, ∑};
@@ -28,7 +30,7 @@ use tables::sets::slices_of;
 use tables::starts::Starts;
 
 // The numbers of a plant that are its capacity's coefficients in every slice, and whether it is VRE or a battery.
-#[derive(Drop)]
+#[derive(Clone, Copy)]
 pub struct Rates {
     pub load: u64,
     pub offer: u64,

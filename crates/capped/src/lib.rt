@@ -2,6 +2,8 @@
 //
 // The crates above hold a `Sum`, and never match on one: they add to it by the functions below, and compare it and ask for its value by those of `compared`.
 // Each function says its result by one equation over `specs/Cap.antt`, for every input; `proofs/Laws.antt` has the laws that callers cite.
+#![tactic(auto)]
+
 ghost use Rattle.std.specs.Prelude.{◌≡◌, ◌&&◌, ◌+◌, ◌*◌, leb};
 ghost use Rattle.lengths.specs.Length.{bit_length};
 ghost use Rattle.capped.specs.declared.Sum.TheVariants.{Exact};
@@ -19,7 +21,7 @@ const HALF: u64 = 0x7fff_ffff;
 // The bits of a word.
 const WORD: u32 = 64;
 
-#[derive(Drop)]
+#[derive(Clone, Copy)]
 pub enum Sum {
     Exact(u64),
     Over,

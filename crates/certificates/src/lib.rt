@@ -1,4 +1,6 @@
 // The tests that certify makes after check's: of the multipliers, of the columns and of the gap, refusals 9 to 13.
+#![tactic(auto)]
+
 ghost use Rattle.std.specs.Prelude.{◌≡◌, ◌≤◌};
 ghost use Rattle.capped.specs.Cap.{limit};
 ghost use Rattle.sums.specs.Span.{fine};

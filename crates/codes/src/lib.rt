@@ -1,4 +1,6 @@
 // Answers in the numbers of documents 01 and 02: 0 with cost and gap, or a refusal's number and place.
+#![tactic(auto)]
+
 ghost use Rattle.std.specs.Prelude.{◌≡◌};
 ghost use Rattle.model.specs.Calls.{code, code_of, answer_code, certificate_code};
 

@@ -1,4 +1,6 @@
 // The price of a column in two factors: the price of a unit, or of a unit's hour, which does not change along the slices; and the hours.
+#![tactic(auto)]
+
 ghost use Rattle.std.specs.Prelude.{◌≡◌, ◌<◌};
 ghost use Rattle.capped.specs.Cap.{cap};
 ghost use Rattle.sums.specs.Index.{box_of};

@@ -1,4 +1,6 @@
 // What the columns are made of: the two sums of a column, its terms and ramps, and what the columns read in common.
+#![tactic(auto)]
+
 pub mod pairs;
 pub mod ramps;
 pub mod readers;
@@ -6,7 +8,7 @@ pub mod readers;
 use capped::Sum;
 
 // A column's positive and negative terms m·a, summed apart.
-#[derive(Drop)]
+#[derive(Clone, Copy)]
 pub struct Pair {
     pub up: Sum,
     pub down: Sum,

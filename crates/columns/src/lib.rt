@@ -1,4 +1,6 @@
 // The columns under the multipliers: Σ m·a of each column, over the rows that it stands in, positive and negative terms apart.
+#![tactic(auto)]
+
 ghost use Rattle.std.specs.Prelude.{◌≡◌};
 ghost use Rattle.sums.specs.Index.{index_of, Member};
 ghost use Rattle.model.specs.Columns.{column_boxes};

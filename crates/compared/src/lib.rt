@@ -1,5 +1,7 @@
 // What is read off capped sums: their order, whether one is above the limit, what one comes to, and what is left of them.
 // `capped` and this crate alone match on a `Sum`.
+#![tactic(auto)]
+
 ghost use Rattle.std.specs.Prelude.{◌≡◌};
 ghost use Rattle.capped.specs.declared.Sum.TheVariants.{Exact};
 ghost use Rattle.capped.specs.Cap.{cap};
@@ -8,14 +10,14 @@ ghost use Rattle.compared.specs.Compared.{order, over, told, net_of};
 use capped::{LIMIT, Sum};
 
 // What a sum comes to.
-#[derive(Drop)]
+#[derive(Clone, Copy)]
 pub enum Amount {
     Exactly(u64),
     Above,
 }
 
 // How two sums compare. Of two that are over nothing is known.
-#[derive(Drop)]
+#[derive(Clone, Copy)]
 pub enum Order {
     Less,
     Equal,
@@ -24,7 +26,7 @@ pub enum Order {
 }
 
 // What is left when one sum is taken from others. It may be above the limit.
-#[derive(Drop)]
+#[derive(Clone, Copy)]
 pub enum Balance {
     Is(u64),
     BelowZero,

@@ -1,11 +1,13 @@
 // A row's constant: what it adds and what it takes off, like terms brought together, and which families have one.
+#![tactic(auto)]
+
 pub mod families;
 
 ghost use Rattle.std.specs.Prelude.{◌≡◌, ◌-◌};
 ghost use Rattle.constants.specs.Constants.{netted_of};
 
 // What a row's constant adds and what it takes off.
-#[derive(Drop)]
+#[derive(Clone, Copy)]
 pub struct Constant {
     pub adds: u64,
     pub takes: u64,

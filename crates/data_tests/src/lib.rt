@@ -1,4 +1,6 @@
 // The tests of the data: refusals 1, 2, 3 and 16.
+#![tactic(auto)]
+
 ghost use Rattle.std.specs.Prelude.{◌≡◌, ◌&&◌, ◌≤◌, ◌<◌, length, get_or};
 ghost use Rattle.sums.specs.Span.{fine, or_else};
 ghost use Rattle.model.specs.Data.{counts_of, most_counts, read, is_battery, is_vre};

@@ -1,4 +1,6 @@
 // The columns gen and reserve.
+#![tactic(auto)]
+
 ghost use Rattle.std.specs.Prelude.{◌≡◌, ◌<◌};
 ghost use Rattle.model.specs.Counts.{slices_of};
 ghost use Rattle.model.specs.Data.{read};

@@ -1,4 +1,6 @@
 // Families 5 to 11: the rows of a plant's dispatch. None has a constant: its two sums are the same at every scale.
+#![tactic(auto)]
+
 ghost use Rattle.std.specs.Prelude.{◌≡◌, ℕ, ◌+◌, ◌*◌, ◌≤◌, ◌<◌, length, get_or};
 ghost use Rattle.capped.specs.Cap.{cap};
 ghost use Rattle.model.specs.Counts.{slices_of, [g]};

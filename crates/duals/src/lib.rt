@@ -1,5 +1,7 @@
 // The multipliers that a caller hands to certify: the two parts of each, a row's multiplier by family and index, and refusals 9 and 10.
 // Signed numbers are met in `parts_of` and `multiplier_in` only.
+#![tactic(auto)]
+
 ghost use Rattle.std.specs.Prelude.{◌≡◌, ◌&&◌, ℕ, ◌+◌, ◌≤◌, ◌<◌, leb, pos, length, get_or};
 ghost use Rattle.sums.specs.Sum.{on};
 ghost use Rattle.sums.specs.Span.{or_else};
@@ -28,7 +30,7 @@ use tables::sets::{
 const MOST_MULTIPLIER: u64 = 0x100_0000_0000;
 
 // The size of a multiplier above zero, and its size below zero; one of the two is 0.
-#[derive(Drop)]
+#[derive(Clone, Copy)]
 pub struct Multiplier {
     pub up: u64,
     pub down: u64,

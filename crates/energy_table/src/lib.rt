@@ -1,4 +1,6 @@
 // The table of the plants' energy, filled: a sum for each year, plant and season.
+#![tactic(auto)]
+
 ghost use Rattle.std.specs.Prelude.{◌≡◌, ◌*◌, length};
 ghost use Rattle.model.specs.Data.{read};
 ghost use Rattle.tables.specs.Layout.{TablesAt, ColumnsAt, plan_entry};

@@ -1,4 +1,6 @@
 // The test of the entries: refusal 3.
+#![tactic(auto)]
+
 ghost use Rattle.std.specs.Prelude.{◌≡◌};
 ghost use Rattle.model.specs.Data.{read};
 ghost use Rattle.model.specs.Tests.{entries_fault};

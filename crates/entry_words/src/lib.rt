@@ -1,4 +1,6 @@
 // Numbers of the data list, a plant of it, and the scale, in words.
+#![tactic(auto)]
+
 ghost use Rattle.std.specs.Prelude.{◌≤◌};
 ghost use Rattle.sums.specs.Index.{Member, index_of};
 ghost use Rattle.model.specs.Data.{table_boxes, read};

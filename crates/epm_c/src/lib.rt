@@ -1,4 +1,6 @@
 // The calls for C and Rust. Each slice passes as a pointer and a length; `out` takes an answer's two figures.
+#![tactic(auto)]
+
 ghost use Rattle.std.specs.Prelude.{◌≡◌, ◌<◌, ◌≤◌, length};
 ghost use Rattle.model.specs.Calls.{check, certify, post, posted, answer_code, certificate_code};
 ghost use Rattle.epm_c.specs.Exports.{status, written, board_of, BindsOut};

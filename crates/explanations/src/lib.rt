@@ -1,4 +1,6 @@
 // The answer to a text: the line of certify, and a line that says it in words.
+#![tactic(auto)]
+
 ghost use Rattle.std.specs.Prelude.{◌≡◌};
 ghost use Rattle.texts.specs.Buffers.{Room, Within, lists_in};
 ghost use Rattle.texts.specs.Format.{whole};

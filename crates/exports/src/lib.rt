@@ -1,4 +1,6 @@
 // An answer's number and two figures, as the calls for C and Rust hand them back.
+#![tactic(auto)]
+
 ghost use Rattle.std.specs.Prelude.{◌≡◌, ◌≤◌, length};
 ghost use Rattle.exports.specs.Figures.{figures};
 

@@ -1,5 +1,7 @@
 // The figures behind a refusal: the sums of a row, the sums and the price of a column, an entry and its range.
 // Each by the place that `places` finds, for lists that passed the refusals before.
+#![tactic(auto)]
+
 ghost use Rattle.std.specs.Prelude.{◌≡◌, ℕ, ◌+◌, ◌-◌, length};
 ghost use Rattle.compared.specs.declared.Balance.TheVariants.{Is};
 ghost use Rattle.sums.specs.Span.{fine, fault, or_else};
@@ -37,14 +39,14 @@ use tables::sets::{shape_of, slices_of};
 use tables::starts::{Starts, column_starts, table_starts};
 
 // What a row's positive terms and its negative terms come to.
-#[derive(Drop)]
+#[derive(Clone, Copy)]
 pub struct RowFigures {
     pub above: Amount,
     pub below: Amount,
 }
 
 // What a column's terms m·a above zero and below come to, its price, and how far it is underpriced: up - (price + down).
-#[derive(Drop)]
+#[derive(Clone, Copy)]
 pub struct ColumnFigures {
     pub up: Amount,
     pub down: Amount,
@@ -53,7 +55,7 @@ pub struct ColumnFigures {
 }
 
 // An entry of the data, and the least and the most that it may be.
-#[derive(Drop)]
+#[derive(Clone, Copy)]
 pub struct EntryFigures {
     pub least: u64,
     pub most: u64,

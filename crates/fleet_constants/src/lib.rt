@@ -1,4 +1,6 @@
 // Families 12, 15 to 20 and 25: the constants of the rows of the fleet.
+#![tactic(auto)]
+
 ghost use Rattle.std.specs.Prelude.{◌≡◌, ◌<◌};
 ghost use Rattle.model.specs.Data.{read};
 ghost use Rattle.model.specs.Families.{row};

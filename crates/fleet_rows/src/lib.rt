@@ -1,4 +1,6 @@
 // Families 12 to 20: the rows of the fleet: capacity, builds, fuel, capital and emissions.
+#![tactic(auto)]
+
 ghost use Rattle.std.specs.Prelude.{◌≡◌, not, ◌&&◌, ◌||◌, ℕ, ◌+◌, ◌<◌, eqb, leb, ltb, length};
 ghost use Rattle.sums.specs.Index.{Index};
 ghost use Rattle.model.specs.Data.{read};

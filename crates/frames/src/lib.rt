@@ -1,4 +1,6 @@
 // The certify program's answer to its text input.
+#![tactic(auto)]
+
 ghost use Rattle.std.specs.Prelude.{◌≡◌};
 ghost use Rattle.texts.specs.Buffers.{Room, Within, lists_in};
 ghost use Rattle.texts.specs.Format.{whole};

@@ -1,4 +1,6 @@
 // The gap of a certificate, cost + N·Σ m·k, and refusal 13.
+#![tactic(auto)]
+
 ghost use Rattle.std.specs.Prelude.{◌≡◌, ◌≤◌, ◌<◌};
 ghost use Rattle.capped.specs.Cap.{limit, cap};
 ghost use Rattle.compared.specs.Compared.{net_of};
@@ -24,7 +26,7 @@ use tables::sets::{box_of, family_at};
 use tables::starts::Starts;
 
 // The terms m·k of rows: those above zero and those below, summed apart.
-#[derive(Drop)]
+#[derive(Clone, Copy)]
 pub struct BySign {
     pub up: Sum,
     pub down: Sum,

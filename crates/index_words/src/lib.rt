@@ -1,4 +1,6 @@
 // The indices of a row, a column or an entry in words, each counted from 1.
+#![tactic(auto)]
+
 ghost use Rattle.std.specs.Prelude.{◌++◌, ◌+◌, ◌≤◌};
 ghost use Rattle.sums.specs.Index.{index_of};
 ghost use Rattle.tables.specs.Layout.{Counted};

@@ -1,6 +1,8 @@
 // The length of a number in bits.
 //
 // `specs/Length.antt` has the definition, `specs/Claims.antt` what request (iii) promises of the product of two numbers by their lengths; `proofs/Laws.antt` proves both.
+#![tactic(auto)]
+
 ghost use Rattle.std.specs.Prelude.{◌≡◌, ◌+◌};
 ghost use Rattle.lengths.specs.Length.{bit_length};
 

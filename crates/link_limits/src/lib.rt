@@ -1,4 +1,6 @@
 // The limits of the links into a zone, summed over the other zones.
+#![tactic(auto)]
+
 ghost use Rattle.std.specs.Prelude.{◌≡◌, not, ◌≤◌, ◌<◌, min, eqb};
 ghost use Rattle.sums.specs.Sum.{sum, least, on};
 ghost use Rattle.model.specs.Data.{read, tl, most32};

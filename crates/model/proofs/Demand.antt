@@ -1,30 +1,29 @@
 -- Demand 3, and the gap with nothing cut off: an accepted certificate is a dual solution, and weak duality does the rest.
-use mathlib.Core.Path.{◌≡◌, refl, sym, ◌∙◌, ap}
-use mathlib.Core.Bool.{Bool, true, false, ◌&&◌}
+use mathlib.Core.Path.{◌≡◌, refl, ap}
+use mathlib.Core.Bool.{Bool, true, false}
 use mathlib.Core.List.{List}
-use Prim.Native.Nat.{ℕ, ◌+◌, ◌*◌, ◌-◌, ◌≤◌}
+use Prim.Native.Nat.{ℕ, ◌+◌, ◌*◌, ◌≤◌}
 use native.Mathlib.Nat.{mul-le-mul_left}
 use native.Mathlib.Omega.{arith}
-use lib.Dec.{eqb, leb}
+use lib.Dec.{leb}
 use lib.IntN.{ℤ}
 use borrow.Author.Tests.{leb-true, eqb-true}
 use Rattle.sums.specs.Sum.{on}
-use Rattle.sums.specs.Span.{Fault, fine, fault, or_else, In, first, total}
-use Rattle.sums.specs.Index.{Index, Member}
-use Rattle.sums.specs.Linear.{value, coefficient}
+use Rattle.sums.specs.Span.{Fault, fine, fault, In, total}
+use Rattle.sums.specs.Index.{Index}
+use Rattle.sums.specs.Linear.{coefficient}
 use Rattle.sums.specs.Duality.{Holds, Signed}
-use Rattle.sums.proofs.Spans.{fault-fine, or_else-fine, first_fine}
+use Rattle.sums.proofs.Spans.{or_else-fine, first_fine}
 use Rattle.sums.proofs.Indices.{member-in, in-member}
 use Rattle.sums.proofs.Linears.{spread}
-use Rattle.sums.proofs.Duality.{weak, binds}
+use Rattle.sums.proofs.Duality.{weak}
 use Rattle.model.specs.declared.Refusal.{Refusal}
-use Rattle.model.specs.declared.Certificate.{Certificate}
-use Rattle.model.specs.declared.Certificate.TheVariants.{Issued, Withheld}
+use Rattle.model.specs.declared.Certificate.TheVariants.{Issued}
 use Rattle.model.specs.Data.{Data, read}
 use Rattle.model.specs.Columns.{columns, column_boxes, entries}
 use Rattle.model.specs.Families.{equation, equal, rows, row_boxes}
 use Rattle.model.specs.Prices.{price, cost}
-use Rattle.model.specs.Tests.{unless, holds, constant⁺, constant⁻, above, below, row_fault, rows_fault, scale_fault, plan_length_fault, plan_fault, multiplier_fault, m⁺, m⁻, most_multiplier, priced⁺, priced⁻, column_fault, constants⁺, constants⁻, gap, multipliers_fault, columns_fault, dual_fault}
+use Rattle.model.specs.Tests.{holds, constant⁺, constant⁻, above, below, row_fault, rows_fault, scale_fault, plan_length_fault, plan_fault, multiplier_fault, m⁺, m⁻, most_multiplier, priced⁺, priced⁻, column_fault, constants⁺, constants⁻, gap, multipliers_fault, columns_fault, dual_fault}
 use Rattle.model.specs.Calls.{certificate, check_fault, certify_fault, cost_of, gap_of, certify}
 use Rattle.model.specs.Rival.{Rival, Bounds, Binds}
 use Rattle.model.specs.Claims.{Demand3, WholeGap}

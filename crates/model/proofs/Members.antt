@@ -1,9 +1,8 @@
 -- Membership of rows and columns by their indices, and the slices of a season.
-use mathlib.Core.Path.{◌≡◌, refl, sym, ap}
-use Prim.Native.Nat.{ℕ, suc, ◌+◌, ◌*◌, ◌-◌, ◌≤◌, ◌<◌}
+use Prim.Native.Nat.{ℕ, ◌<◌}
 use native.Mathlib.Nat.{mul-le-mul_right, mul_assoc, suc-mul}
 use native.Mathlib.Omega.{arith}
-use Rattle.sums.specs.Index.{Index, index, Member}
+use Rattle.sums.specs.Index.{Index, Member}
 use Rattle.model.specs.Data.{Data, Z, G, Q, Y, S, P}
 use Rattle.model.specs.Columns.{column_boxes, cap, build, retire, gen, reserve, trans, unmet, surplus, spinshort, firmshort, charge, level, built_lines, total_lines}
 use Rattle.model.specs.Families.{slice_of}

@@ -1,8 +1,8 @@
 -- The rows are those that documents 01 and 02 print.
-use mathlib.Core.Path.{◌≡◌, refl}
-use Prim.Native.Nat.{ℕ, ◌<◌}
+use mathlib.Core.Path.{refl}
+use Prim.Native.Nat.{ℕ}
 use native.Mathlib.Omega.{arith}
-use Rattle.sums.specs.Index.{Index, index, Member}
+use Rattle.sums.specs.Index.{Index, Member}
 use Rattle.sums.specs.Linear.{value}
 use Rattle.sums.proofs.Tests.{on-zero}
 use Rattle.sums.proofs.Linears.{spread}

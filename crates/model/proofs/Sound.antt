@@ -1,22 +1,22 @@
 -- What passed tests of the data say of its entries.
-use mathlib.Core.Path.{◌≡◌, refl, sym, ap}
+use mathlib.Core.Path.{◌≡◌, refl, sym}
 use mathlib.Core.Bool.{Bool, true, false, ◌&&◌}
 use mathlib.Core.Logic.{⊎_elim}
 use mathlib.Core.List.{List}
-use Prim.Native.Nat.{ℕ, ◌+◌, ◌*◌, ◌-◌, ◌≤◌, ◌<◌}
+use Prim.Native.Nat.{ℕ, ◌*◌, ◌-◌, ◌≤◌, ◌<◌}
 use native.Mathlib.Nat.{zero-mul, mul-zero}
 use native.Mathlib.Omega.{arith}
 use lib.Dec.{leb}
 use lib.ListN.{get_or}
 use borrow.Author.Tests.{leb-true}
 use Rattle.capped.proofs.Laws.{le-or-lt}
-use Rattle.sums.specs.Span.{Fault, fine, fault, or_else, first, upto}
+use Rattle.sums.specs.Span.{Fault, fine, fault}
 use Rattle.sums.specs.Index.{Index, index, Member, members}
 use Rattle.sums.proofs.Spans.{fault-fine, or_else-fine, first_fine, upto-fine}
 use Rattle.sums.proofs.Indices.{member-in}
 use Rattle.model.specs.declared.Refusal.{Refusal}
 use Rattle.model.specs.declared.Refusal.TheVariants.{Entry}
-use Rattle.model.specs.Data.{Data, Range, within, tables, table_boxes, read, place_of, most_counts, counts_of, all, ◌to◌, zone, fuel, Z, G, F}
+use Rattle.model.specs.Data.{Data, Range, within, tables, table_boxes, read, place_of, most_counts, all, ◌to◌, Z, F}
 use Rattle.model.specs.Families.{equation}
 use Rattle.model.specs.Tests.{unless, entry_fault, entries_fault, data_fault, counts_fault, count_fault, constant⁺, constant⁻}
 use Rattle.model.specs.declared.Answer.TheVariants.{Refused}

@@ -1,14 +1,11 @@
 -- Every row mentions columns of the plan only.
-use mathlib.Core.Path.{◌≡◌, refl}
-use Prim.Native.Nat.{ℕ, zero, suc, ◌+◌, ◌*◌, ◌-◌, ◌≤◌, ◌<◌}
+use Prim.Native.Nat.{ℕ, ◌<◌}
 use native.Mathlib.Omega.{arith}
-use lib.ListN.{length}
 use Rattle.sums.specs.Index.{Index, index, Member, box_of}
 use Rattle.sums.specs.Linear.{Mentions}
 use Rattle.sums.proofs.Lists.{Alls, at_place, ◌and◌}
-use Rattle.model.specs.Data.{Data, Z, G, Q, Y, S, P}
-use Rattle.model.specs.Columns.{column_boxes}
-use Rattle.model.specs.Families.{Equation, empty, equation, equations, row_boxes, slice_of}
+use Rattle.model.specs.Data.{Data}
+use Rattle.model.specs.Families.{Equation, empty, equation, equations, row_boxes}
 use Rattle.model.proofs.Members.{Column, in_cap, in-build, in-retire, in-gen, in-reserve, in-trans, in-unmet, in-surplus, in-spinshort, in-firmshort, in-charge, in-level, in-built, in-total, in-year}
 
 module _ (D : Data) where

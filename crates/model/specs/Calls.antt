@@ -80,7 +80,7 @@ post_fault l N plan y board start = or_else (check_fault l N plan) (board_fault 
 unfoldable pub post : List ℕ → ℕ → List ℕ → ℕ → List ℕ → ℕ → Answer
 post l N plan y board start = answer (post_fault l N plan y board start) (cost_of l plan)
 
--- G-as-S numbers
+-- G·S numbers
 unfoldable pub year_outputs : Data → List ℕ → ℕ → List ℕ
 year_outputs D plan y = take (G D * S D) (drop (column_number D (gen y 0 0)) plan)
 

@@ -8,7 +8,7 @@ pub use Rattle.model.specs.declared.Counts.{Counts}
 abbrev pub slices_of : Counts → ℕ
 slices_of c = c.seasons * c.days * c.hours
 
--- D-as-T, the slices of a season
+-- D·T, the slices of a season
 abbrev pub season_length : Counts → ℕ
 season_length c = c.days * c.hours
 

@@ -208,7 +208,7 @@ module _ (D : Data) where
   abbrev pub candidate : ℕ → Bool
   candidate g = not (existing g)
 
-  abbrev pub season : ℕ → ℕ  -- q of s = (q-D + d)·T + t
+  abbrev pub season : ℕ → ℕ  -- q of s = (q·D + d)·T + t
   season s = s / P
 
   abbrev pub day : ℕ → ℕ  -- d of s

@@ -1,7 +1,6 @@
 -- The families of rows: the fixed table, and each family's equation.
 -- "L ≤ R" is read as R − L ≥ 0, the others as L − R; positive and negative terms stand apart.
-use Rattle.std.specs.Prelude.{Bool, true, false, not, ◌&&◌, ◌||◌, List, [], ◌∷◌, map, ℕ, ◌+◌, ◌*◌, ◌-◌, ◌^◌, eqb, leb, ltb}
-use Rattle.std.proofs.Math.ListN.{get_or}
+use Rattle.std.specs.Prelude.{Bool, true, false, not, ◌&&◌, ◌||◌, List, [], ◌∷◌, map, ℕ, ◌+◌, ◌*◌, ◌-◌, ◌^◌, eqb, leb, ltb, get_or}
 use Rattle.sums.specs.Sum.{sum, on}
 use Rattle.sums.specs.Span.{Span}
 use Rattle.sums.specs.declared.Box.{Box}
@@ -130,7 +129,7 @@ module _ (D : Data) where
   abbrev pub ramp : ℕ → Linear → Index → Index → Equation
   ramp s allowed high low = only (after_first_hour D s) (record { positive = allowed ⊕ 1000 · low; negative = 1000 · high; plus = 0; minus = 0 })
 
-  -- 1 (14): 1000·Σ gen in z − 1000·Σ charge in z − 1000·Σ trans[z,z2] + Σ (1000 − Loss[z2,z])·trans[z2,z] + unmet − surplus = Demand-as-EE
+  -- 1 (14): 1000·Σ gen in z − 1000·Σ charge in z − 1000·Σ trans[z,z2] + Σ (1000 − Loss[z2,z])·trans[z2,z] + unmet − surplus = Demand·EE
   -- (a difference here is cut off at 0; Loss is at most 1000, as refusal 3 has it)
   unfoldable pub balance : ℕ → ℕ → ℕ → Equation
   balance y z s = record {
@@ -239,7 +238,7 @@ module _ (D : Data) where
   unfoldable pub new_capacity : ℕ → Equation
   new_capacity g = only (candidate D g) (at_most (∑ (Y D) (λ y. 1 · build y g)) (max_new_cap D g))
 
-  -- 16 (58), candidate: build ≤ BuildLimit-as-V
+  -- 16 (58), candidate: build ≤ BuildLimit·V
   unfoldable pub yearly_build : ℕ → ℕ → Equation
   yearly_build y g = only (candidate D g) (at_most (1 · build y g) (build_limit D y * weight D y))
 

@@ -7,7 +7,7 @@ use Rattle.model.specs.Data.{Data, rate, weight, duration, annuity, fixed_om, ge
 use Rattle.model.specs.Columns.{columns}
 
 module _ (D : Data) where
-  -- W = R-as-V
+  -- W = R·V
   abbrev pub year_weight : ℕ → ℕ
   year_weight y = rate D y * weight D y
 

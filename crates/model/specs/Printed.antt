@@ -34,7 +34,7 @@ module _ (D : Data) (x : Index → ℕ) where
     pub takes : (equation D r).minus ≡ k⁻
 
   pub record Printed : Type 0 where
-    -- 1 (14): 1000·Σ gen in z − 1000·Σ charge in z − 1000·Σ trans[z,z2] + Σ (1000 − Loss[z2,z])·trans[z2,z] + unmet − surplus = Demand-as-EE
+    -- 1 (14): 1000·Σ gen in z − 1000·Σ charge in z − 1000·Σ trans[z,z2] + Σ (1000 − Loss[z2,z])·trans[z2,z] + unmet − surplus = Demand·EE
     pub family1 : (y z s : ℕ) → y < Y D → z < Z D → s < S D → Reads (row 1 y z 0 s) 14 true
         (plants_in z (λ g. 1000 * x (gen y g s)) + zones_but z (λ u. (1000 - loss D y u z) * x (trans y u z s)) + 1 * x (unmet y z s))
         (plants_in z (λ g. 1000 * x (charge y g s)) + zones_but z (λ u. 1000 * x (trans y z u s)) + 1 * x (surplus y z s))
@@ -87,7 +87,7 @@ module _ (D : Data) (x : Index → ℕ) where
     -- 15 (55), candidate: Σ build ≤ MaxNewCap
     pub family15 : (g : ℕ) → g < G D → Reads (row 15 0 g 0 0) 55 false
         0 (on (candidate D g) (sum (Y D) (λ y. 1 * x (build y g)))) (on (candidate D g) (max_new_cap D g)) 0
-    -- 16 (58), candidate: build ≤ BuildLimit-as-V
+    -- 16 (58), candidate: build ≤ BuildLimit·V
     pub family16 : (y g : ℕ) → y < Y D → g < G D → Reads (row 16 y g 0 0) 58 false
         0 (on (candidate D g) (1 * x (build y g))) (on (candidate D g) (build_limit D y * weight D y)) 0
     -- 17 (62): Σ Dur·HeatRate·gen of that zone and fuel ≤ 1000·MaxFuel

@@ -1,6 +1,5 @@
 -- For each kind of column, the rows that it stands in and its coefficients there: the equations read by column.
-use Rattle.std.specs.Prelude.{◌≡◌, not, ◌&&◌, ◌||◌, List, [], ◌∷◌, ℕ, ◌+◌, ◌*◌, ◌-◌, ◌<◌, eqb, ltb}
-use Rattle.std.proofs.Math.ListN.{get_or}
+use Rattle.std.specs.Prelude.{◌≡◌, not, ◌&&◌, ◌||◌, List, [], ◌∷◌, ℕ, ◌+◌, ◌*◌, ◌-◌, ◌<◌, eqb, ltb, get_or}
 use Rattle.sums.specs.Span.{total}
 use Rattle.sums.specs.Index.{Index, index, Member}
 use Rattle.sums.specs.Linear.{Linear, nothing, ◌·◌, ∑, ◌⊕◌, when, value, coefficient}

@@ -173,7 +173,7 @@ module _ (D : Data) (ms : List ℤ) where
   unfoldable pub dual_fault : ℕ → Fault Refusal
   dual_fault N = or_else (multiplier_count_fault D ms) (or_else multipliers_fault (or_else columns_fault (gap_fault N)))
 
--- The board (14): the year is below Y, and G-as-S places stand from the start place on
+-- The board (14): the year is below Y, and G·S places stand from the start place on
 
 unfoldable pub board_fault : Data → ℕ → ℕ → ℕ → Fault Refusal
 board_fault D y places start = unless (ltb y (Y D) && leb (G D * S D) (places - start)) Board

@@ -1,4 +1,6 @@
 // The peak demand of a year and zone.
+#![tactic(auto)]
+
 ghost use Rattle.std.specs.Prelude.{◌≡◌, ◌≤◌, ◌<◌, max, length, get_or};
 ghost use Rattle.sums.specs.Sum.{largest};
 ghost use Rattle.model.specs.Data.{read, peak, most32};

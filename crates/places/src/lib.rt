@@ -1,4 +1,6 @@
 // From the number of a row, a column or a data entry to its kind and indices: the inverse of document 01's numbering.
+#![tactic(auto)]
+
 ghost use Rattle.std.specs.Prelude.{◌≡◌, ◌+◌, ◌≤◌, ◌<◌, length, get_or};
 ghost use Rattle.sums.specs.Index.{volume, count, Member, index_of};
 ghost use Rattle.model.specs.Data.{table_boxes, place_of, data_length};
@@ -14,7 +16,7 @@ use tables::sets::{box_of, family_at, shape_of};
 use tables::starts::{column_box, column_starts, table_box, table_starts};
 
 // A slice by its season, its day of the season and its hour of the day, each counted from 0.
-#[derive(Drop)]
+#[derive(Clone, Copy)]
 pub struct Slice {
     pub season: usize,
     pub day: usize,

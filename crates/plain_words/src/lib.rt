@@ -1,4 +1,6 @@
 // What is said of an answer of certify that names no place: a Frame, an acceptance, and the scale that was taken.
+#![tactic(auto)]
+
 ghost use Rattle.writer.specs.Writing.{Started, Said};
 ghost use Rattle.plain_words.specs.Plain.{frame_words, accepted_words, scale_taken};
 

@@ -1,4 +1,6 @@
 // The tests of the plan's scale and length, and of the board's room: refusals 4, 5 and 14.
+#![tactic(auto)]
+
 ghost use Rattle.std.specs.Prelude.{◌≡◌, ◌&&◌, ◌-◌, ltb, leb};
 ghost use Rattle.plan_tests.specs.Tests.{plan_test};
 

@@ -1,4 +1,6 @@
 // The cost of a plan: Σ price·entry over all columns, year by year.
+#![tactic(auto)]
+
 ghost use Rattle.std.specs.Prelude.{◌≡◌, ◌<◌};
 ghost use Rattle.capped.specs.Cap.{cap};
 ghost use Rattle.model.specs.Data.{read};

@@ -1,4 +1,6 @@
 // The walk over all columns, in the order of the plan, left at the first that is off scale or underpriced: refusals 11 and 12.
+#![tactic(auto)]
+
 ghost use Rattle.std.specs.Prelude.{◌≡◌};
 ghost use Rattle.capped.specs.Cap.{cap};
 ghost use Rattle.sums.specs.Index.{index_of, number, Member};

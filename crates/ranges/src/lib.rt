@@ -1,4 +1,6 @@
 // The range of each entry of the data, both ends included.
+#![tactic(auto)]
+
 ghost use Rattle.std.specs.Prelude.{◌≡◌, ℕ, ◌+◌, ◌-◌, ◌≤◌, ◌<◌, get_or};
 ghost use Rattle.sums.specs.Index.{box_of};
 ghost use Rattle.model.specs.Counts.{sets};
@@ -13,7 +15,7 @@ use tables::names::{
 use tables::plants::is_existing;
 use tables::starts::Starts;
 
-#[derive(Drop)]
+#[derive(Clone, Copy)]
 pub struct Range {
     pub least: u32,
     pub most: u32,

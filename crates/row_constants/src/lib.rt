@@ -1,4 +1,6 @@
 // The constant of any row: its family decides which.
+#![tactic(auto)]
+
 ghost use Rattle.std.specs.Prelude.{◌≡◌};
 ghost use Rattle.sums.specs.Span.{fine};
 ghost use Rattle.sums.specs.Index.{index_of, Member};

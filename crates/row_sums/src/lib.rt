@@ -1,4 +1,6 @@
 // A row's two sums, from its terms and its constant.
+#![tactic(auto)]
+
 ghost use Rattle.std.specs.Prelude.{◌≡◌};
 ghost use Rattle.capped.specs.Cap.{cap};
 ghost use Rattle.row_sums.specs.Ready.{sides_with, sides};
@@ -7,7 +9,7 @@ use capped::Sum;
 use constants::{Constant, netted};
 
 // A row's positive and negative terms, summed apart.
-#[derive(Drop)]
+#[derive(Clone, Copy)]
 pub struct Sides {
     pub above: Sum,
     pub below: Sum,

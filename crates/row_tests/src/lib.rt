@@ -1,4 +1,6 @@
 // The walk over all rows, in the order of documents 01 and 02, left at the first row not met: refusals 6 and 7.
+#![tactic(auto)]
+
 ghost use Rattle.std.specs.Prelude.{◌≡◌, ◌<◌};
 ghost use Rattle.sums.specs.Span.{fine};
 ghost use Rattle.sums.specs.Index.{number, index_of};

@@ -1,4 +1,6 @@
 // Rows in words.
+#![tactic(auto)]
+
 ghost use Rattle.sums.specs.Index.{Member, index_of};
 ghost use Rattle.model.specs.Data.{read};
 ghost use Rattle.model.specs.Columns.{entries};

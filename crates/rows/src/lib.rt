@@ -1,4 +1,6 @@
 // The two sums of any row: its family decides which.
+#![tactic(auto)]
+
 ghost use Rattle.std.specs.Prelude.{◌≡◌, ◌<◌};
 ghost use Rattle.sums.specs.Index.{index_of};
 ghost use Rattle.model.specs.Data.{read};

@@ -1,5 +1,7 @@
 // Figures in words; specs/ has what is said of a row, a column, an entry or a count with its figures, or of a plant.
 // A row, a column and an entry have the number that the answer gives; their indices, and a plant, are counted from 1.
+#![tactic(auto)]
+
 ghost use Rattle.writer.specs.Writing.{Started, Said};
 ghost use Rattle.sentences.specs.Sentences.{amount_words, balance_words, signed_words, range_words, length_words};
 

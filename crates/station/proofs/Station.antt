@@ -1,5 +1,5 @@
 -- The ten cases of the one-plant station, over certify itself.
-use mathlib.Core.Path.{◌≡◌, refl}
+use mathlib.Core.Path.{refl}
 use Rattle.capped.specs.Cap.{limit}
 use Rattle.sums.specs.Sum.{sum, largest}
 use Rattle.sums.specs.Span.{upto, or_else}

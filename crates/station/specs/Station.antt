@@ -1,5 +1,5 @@
 -- The one-plant station of document 01, its lists grown by zeros, and its ten cases.
-use Rattle.std.specs.Prelude.{List, [], ◌∷◌, ◌++◌, map, ℕ, ◌-◌, ℤ, pos, replicate}
+use Rattle.std.specs.Prelude.{List, [], ◌∷◌, ℕ, ◌-◌, ℤ, pos, replicate}
 use Rattle.model.specs.Columns.{column_kind_count}
 use Rattle.model.specs.Families.{family_count}
 use Rattle.model.specs.declared.Code.{Code}

@@ -1,4 +1,6 @@
 // The columns charge and level. Of a plant that is no battery each stands only in the rows that hold it at 0.
+#![tactic(auto)]
+
 ghost use Rattle.std.specs.Prelude.{◌≡◌, ◌<◌};
 ghost use Rattle.model.specs.Counts.{slices_of};
 ghost use Rattle.model.specs.Data.{read};

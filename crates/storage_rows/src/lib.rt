@@ -1,4 +1,6 @@
 // Families 21 to 25: the rows of batteries. A plant that is no battery has empty rows of 21, 23 and 24; those of 22 and 25 hold its charge and level to 0.
+#![tactic(auto)]
+
 ghost use Rattle.std.specs.Prelude.{◌≡◌, List, ℕ, ◌+◌, ◌*◌, ◌-◌, ◌%◌, ◌<◌, ltb, length, get_or};
 ghost use Rattle.capped.specs.Cap.{cap};
 ghost use Rattle.sums.specs.Sum.{on};

@@ -2,7 +2,7 @@
 use mathlib.Core.Path.{◌≡◌, refl, sym, ◌∙◌, ap, ap₂}
 use mathlib.Core.Logic.{◌≢◌}
 use Prim.Native.Nat.{ℕ, zero, suc, ◌+◌, ◌*◌, ◌-◌, ◌≤◌, ◌<◌}
-use native.Mathlib.Nat.{add-zero, zero-add, add-suc, suc-mul, zero-mul, mul-zero, mul-add, add-mul, le_refl, add-le-add}
+use native.Mathlib.Nat.{add-zero, zero-add, add-suc, suc-mul, zero-mul, mul-zero, le_refl, add-le-add}
 use native.Mathlib.Omega.{arith}
 use native.Mathlib.Numerals.{add-one}
 use Rattle.sums.specs.Sum.{sum}

@@ -45,6 +45,7 @@ eqb-true n = go (eqb n n) (eqb_refl n)
   where
     go : (b : Bool) → T b → b ≡ true
     go true t = refl
+    go false t = elim t [ ]
 
 pub eqb-false : (m n : ℕ) → m ≢ n → eqb m n ≡ false
 eqb-false m n h = go (eqb m n) (λ t. h (eqb→eq m n t))

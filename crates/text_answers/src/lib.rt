@@ -1,4 +1,6 @@
 // The scale of a text; specs/ has the definition of the certify program's answer to its text input.
+#![tactic(auto)]
+
 ghost use Rattle.std.specs.Prelude.{◌≡◌};
 ghost use Rattle.text_answers.specs.Format.{scale_in};
 

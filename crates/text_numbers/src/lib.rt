@@ -1,11 +1,13 @@
 // Numbers in capital hexadecimal, as the lines of the certify program's text input have them.
+#![tactic(auto)]
+
 ghost use Rattle.std.specs.Prelude.{◌≡◌, ◌+◌, ◌≤◌, ◌<◌, length};
 ghost use Rattle.text_numbers.specs.Numbers.{digit, digits_at, number_at, signed};
 
 const SPACE: u8 = 32;
 
 // A number that was read, or none.
-#[derive(Drop)]
+#[derive(Clone, Copy)]
 pub enum Number {
     Value(u64),
     NoNumber,

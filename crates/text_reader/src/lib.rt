@@ -1,4 +1,6 @@
 // A whole text, line by line, read into lent buffers.
+#![tactic(auto)]
+
 ghost use Rattle.std.specs.Prelude.{◌≡◌, ◌+◌, ◌≤◌, length, drop};
 ghost use Rattle.texts.specs.Buffers.{line_length, text_in, Room, ReadingWithin};
 ghost use Rattle.texts.specs.Format.{text_of};

@@ -1,4 +1,6 @@
 // The lines of the certify program's text input, read into lent buffers.
+#![tactic(auto)]
+
 pub mod lines;
 
 // The most numbers of each word on all its lines.
@@ -11,7 +13,7 @@ pub const MOST_SCAL: usize = 1;
 pub const MOST_DUAL: usize = 4096;
 
 // The word that a line opens with.
-#[derive(Drop)]
+#[derive(Clone, Copy)]
 pub enum Word {
     Data,
     Plan,
@@ -21,7 +23,7 @@ pub enum Word {
 }
 
 // How many numbers of each word its buffer holds.
-#[derive(Drop)]
+#[derive(Clone, Copy)]
 pub struct Used {
     pub data: usize,
     pub plan: usize,
@@ -30,14 +32,14 @@ pub struct Used {
 }
 
 // What the buffers hold with the numbers of a line, or none where that line is a Frame.
-#[derive(Drop)]
+#[derive(Clone, Copy)]
 pub enum Line {
     Read(Used),
     NoLine,
 }
 
 // What the buffers hold with the numbers of all lines, or the number of the first line that is a Frame.
-#[derive(Drop)]
+#[derive(Clone, Copy)]
 pub enum Reading {
     Whole(Used),
     FrameAt(usize),

@@ -1,4 +1,6 @@
 // The prices that the columns take theirs from: of a MW and of a line by the year, and of an hour.
+#![tactic(auto)]
+
 ghost use Rattle.std.specs.Prelude.{◌≡◌, ◌+◌, ◌<◌, ltb};
 ghost use Rattle.capped.specs.Cap.{cap};
 ghost use Rattle.sums.specs.Sum.{on};

@@ -1,4 +1,6 @@
 // Words and numbers written one behind another into a line of fixed room. What has no room is left out.
+#![tactic(auto)]
+
 ghost use Rattle.std.specs.Prelude.{cond, ◌≡◌, ◌++◌, ◌-◌, ◌≤◌, length, take, drop};
 ghost use Rattle.answer_line.specs.Line.{decimal};
 ghost use Rattle.writer.specs.Writing.{Started, Said};
@@ -12,7 +14,7 @@ pub const ROOM: usize = 1024;
 const SLASH: u8 = 47;
 
 // A part of a list: from a place up to the place before the end.
-#[derive(Drop)]
+#[derive(Clone, Copy)]
 pub struct Part {
     pub from: usize,
     pub end: usize,

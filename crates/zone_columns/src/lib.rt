@@ -1,4 +1,6 @@
 // The columns of links and zones: trans, unmet, surplus, spinshort and firmshort.
+#![tactic(auto)]
+
 ghost use Rattle.std.specs.Prelude.{◌≡◌, ◌<◌};
 ghost use Rattle.sums.specs.Index.{index};
 ghost use Rattle.sums.specs.Linear.{nothing, ◌·◌};

@@ -1,4 +1,6 @@
 // Families 1 to 4 and 27: the constants of the rows of a zone and of a pair of zones.
+#![tactic(auto)]
+
 ghost use Rattle.std.specs.Prelude.{◌≡◌, ◌<◌};
 ghost use Rattle.sums.specs.Span.{fine};
 ghost use Rattle.model.specs.Counts.{slices_of};
@@ -19,7 +21,7 @@ use tables::names::{DEMAND, EE, LINE_LIMIT, PRM, S_RES, TL};
 use tables::starts::Starts;
 
 // Thousandths that a zone's load is multiplied by: in the balance the Demand of a slice by EE, for firm capacity the peak by 1000 + PRM.
-#[derive(Drop)]
+#[derive(Clone, Copy)]
 pub struct Rates {
     pub ee: u64,
     pub margin: u64,

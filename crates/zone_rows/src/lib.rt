@@ -1,4 +1,6 @@
 // Families 1 to 4: the rows of a zone.
+#![tactic(auto)]
+
 ghost use Rattle.std.specs.Prelude.{◌≡◌, ℕ, ◌+◌, ◌*◌, ◌<◌, eqb, length};
 ghost use Rattle.capped.specs.Cap.{cap};
 ghost use Rattle.sums.specs.Span.{fine};

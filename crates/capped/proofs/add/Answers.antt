@@ -1,0 +1,21 @@
+use native.Mathlib.Omega.{arith}
+use Rattle.capped.specs.Cap.{limit, plus}
+use Rattle.capped.proofs.Laws.{low-add, high-add}
+use borrow.Author.Rules.{rules}
+use Rattle.capped.proofs.add.Goals as goal
+
+pub returns-in_default : goal.returns-in_default
+unfolding plus
+returns-in_default c = search rules
+
+pub returns-then-v-gt-LIMIT : goal.returns-then-v-gt-LIMIT
+unfolding limit
+returns-then-v-gt-LIMIT c = high-add _ c.in-Exact.is (omega arith)
+
+pub returns-then-n-v : goal.returns-then-n-v
+unfolding limit
+returns-then-n-v c = high-add _ c.in-Exact.is (omega arith)
+
+pub returns : goal.returns
+unfolding limit
+returns c = low-add _ c.in-Exact.is (omega arith)

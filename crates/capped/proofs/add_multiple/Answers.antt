@@ -1,0 +1,6 @@
+use mathlib.Core.Path.{◌∙◌}
+use borrow.Author.Rules.{rules}
+use Rattle.capped.proofs.add_multiple.Goals as goal
+
+pub returns : goal.returns
+returns c = c.join.ensures ∙ rw c.scale.ensures

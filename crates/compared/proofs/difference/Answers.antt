@@ -1,0 +1,6 @@
+use mathlib.Core.Path.{◌∙◌}
+use borrow.Author.Rules.{rules}
+use Rattle.compared.proofs.difference.Goals as goal
+
+pub returns : goal.returns
+returns c = c.net.ensures ∙ rw c.zero.ensures

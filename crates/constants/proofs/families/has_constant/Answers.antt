@@ -1,0 +1,8 @@
+use mathlib.Core.Path.{refl}
+use Rattle.constants.specs.Constants.{has_constant}
+use borrow.Author.Rules.{rules}
+use Rattle.constants.proofs.families.has_constant.Goals as goal
+
+pub returns : goal.returns
+unfolding has_constant
+returns c = refl

@@ -1,0 +1,27 @@
+use mathlib.Core.Path.{refl, sym, ap, ◌∙◌}
+use Prim.Native.Nat.{◌+◌, ◌-◌, ◌<◌}
+use native.Mathlib.Omega.{arith}
+use borrow.Author.Rules.{rules}
+use borrow.Author.Tests.{not-true, not-false}
+use lib.ListN.{length, get_or}
+use Rattle.sums.specs.Sum.{sum}
+use Rattle.sums.specs.Index.{start}
+use Rattle.sums.proofs.Spans.{upto-stop}
+use Rattle.model.specs.Families.{row_boxes, family_count}
+use Rattle.model.specs.Tests.{unless}
+use Rattle.tables.specs.Layout.{outcome}
+use Rattle.tables.proofs.Walk.{Reached, begun, turned, ended}
+use Rattle.duals.proofs.Laws.{row_fault, family_fault, all-multipliers, start-next, family-row, family-faults, tested}
+use Rattle.duals.proofs.test_ranges.Given as goal
+
+abbrev pub invariant-loop-i : goal.invariant-loop-i
+invariant-loop-i l = Reached (λ v. row_fault l.ms l.equal (start (row_boxes l.shape.counts) l.k + v)) (λ v. start (row_boxes l.shape.counts) l.k + v) l.i (get_or l.shape.sizes l.k 0) l.row l.answer
+
+abbrev pub decreases-loop-i : goal.decreases-loop-i
+decreases-loop-i l = get_or l.shape.sizes l.k 0 - l.i
+
+abbrev pub invariant-walk : goal.invariant-walk
+invariant-walk l = Reached (family_fault l.ms l.shape.counts) (λ n. start (row_boxes l.shape.counts) n) l.k family_count l.row l.answer
+
+abbrev pub decreases-walk : goal.decreases-walk
+decreases-walk l = family_count - l.k

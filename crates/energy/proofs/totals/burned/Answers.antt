@@ -1,0 +1,46 @@
+use mathlib.Core.Path.{◌≡◌, refl, ◌∙◌}
+use mathlib.Core.Bool.{Bool, ◌&&◌}
+use mathlib.Core.List.{List}
+use Prim.Native.Nat.{ℕ, ◌-◌, ◌≤◌}
+use native.Mathlib.Omega.{arith}
+use borrow.Author.Rules.{rules}
+use lib.Dec.{eqb}
+use Rattle.capped.specs.declared.Sum.{Sum}
+use Rattle.model.specs.declared.Counts.{Counts}
+use Rattle.model.specs.Data.{read, zone, fuel, heat_rate}
+use Rattle.energy.specs.Energies.{all_if, year_energy}
+use Rattle.energy.proofs.Laws.{all_more, all_done, plant-read}
+use Rattle.energy.proofs.totals.burned.Invariants.{burns, burned_by}
+use Rattle.energy.proofs.totals.burned.Goals as goal
+
+pub loop-g-init : goal.loop-g-init
+unfolding all_if
+loop-g-init c = (search rules, c.zero-total.ensures)
+
+pub by_plant-requires : goal.by_plant-requires
+by_plant-requires c = plant-read c.requires.0 (omega arith) refl c.loop-g-test.true
+
+pub by_plant-requires-in-loop-g : goal.by_plant-requires-in-loop-g
+by_plant-requires-in-loop-g c = plant-read c.requires.0 (omega arith) refl c.loop-g-test.true
+
+pub by_plant-requires-in-loop-g-2 : goal.by_plant-requires-in-loop-g-2
+by_plant-requires-in-loop-g-2 c = plant-read c.requires.0 (omega arith) refl c.loop-g-test.true
+
+pub add_energy_if-total-requires : goal.add_energy_if-total-requires
+add_energy_if-total-requires c = let p = c.requires in (p.0.counted, (p.1.0, (p.1.1, c.loop-g-test.true)))
+
+pub loop-g-preserved : goal.loop-g-preserved
+loop-g-preserved c =
+    let a = c.args in
+    let d = a.«data».now in (
+      search rules,
+      all_more c.loop-g.g (burns d a.z a.f) (burned_by d a.c a.energy.now a.y) c.add_energy_if-total.ensures c.loop-g.invariant.1
+          (c.both-here.ensures ∙ rw (c.by_plant.ensures.0, c.by_plant-in-loop-g.ensures.0))
+          (rw c.by_plant-in-loop-g-2.ensures.0),
+    )
+
+pub returns : goal.returns
+returns c =
+    let l = c.loop-g in
+    let a = c.args in
+    all_done (burns a.«data».now a.z a.f) (burned_by a.«data».now a.c a.energy.now a.y) l.invariant.1 (omega arith)

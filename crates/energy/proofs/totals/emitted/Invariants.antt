@@ -1,0 +1,22 @@
+use mathlib.Core.Path.{◌≡◌, refl}
+use mathlib.Core.Bool.{true}
+use mathlib.Core.List.{List}
+use Prim.Native.Nat.{ℕ, ◌-◌, ◌≤◌}
+use native.Mathlib.Omega.{arith}
+use borrow.Author.Rules.{rules}
+use Rattle.capped.specs.declared.Sum.{Sum}
+use Rattle.model.specs.declared.Counts.{Counts}
+use Rattle.model.specs.Data.{read, emission}
+use Rattle.energy.specs.Energies.{all_if, all_of, year_energy}
+use Rattle.energy.proofs.Laws.{all_more, all_done, plant-read}
+use Rattle.energy.proofs.totals.emitted.Given as goal
+
+-- what plant g adds
+abbrev pub emitted_by : List ℕ → Counts → List (List ℕ) → ℕ → ℕ → Sum
+emitted_by «data» c energy y g = year_energy c energy (emission (read «data») g) y g
+
+abbrev pub invariant-loop-g : goal.invariant-loop-g
+invariant-loop-g l = (l.g ≤ l.c.plants) × (l.total ≡ all_of l.g (emitted_by l.«data» l.c l.energy l.y))
+
+abbrev pub decreases-loop-g : goal.decreases-loop-g
+decreases-loop-g l = l.c.plants - l.g

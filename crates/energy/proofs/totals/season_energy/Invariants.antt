@@ -1,0 +1,17 @@
+use mathlib.Core.Path.{◌≡◌, ◌∙◌, ap}
+use Prim.Native.Nat.{◌+◌, ◌*◌, ◌-◌, ◌≤◌}
+use native.Mathlib.Omega.{arith}
+use borrow.Author.Rules.{rules}
+use lib.ListN.{get_or}
+use Rattle.capped.specs.Cap.{cap}
+use Rattle.sums.specs.Sum.{sum}
+use Rattle.model.specs.Counts.{slices_of}
+use Rattle.model.specs.Data.{read, duration}
+use Rattle.energy.proofs.Laws.{more, season-is, slice-below, few-season-slices, duration-read}
+use Rattle.energy.proofs.totals.season_energy.Given as goal
+
+abbrev pub invariant-loop-i : goal.invariant-loop-i
+invariant-loop-i l = (l.total ≡ cap (sum l.i (λ j. duration (read l.«data») (l.from + j) * get_or l.outputs (l.g * slices_of l.c + (l.from + j)) 0))) × (l.i ≤ l.p) × (l.p ≤ 96) × (l.from ≤ 288)
+
+abbrev pub decreases-loop-i : goal.decreases-loop-i
+decreases-loop-i l = l.p - l.i

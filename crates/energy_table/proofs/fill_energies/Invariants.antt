@@ -1,0 +1,35 @@
+use mathlib.Core.Path.{◌≡◌, refl}
+use mathlib.Core.List.{List}
+use Prim.Native.Nat.{ℕ, ◌+◌, ◌*◌, ◌-◌, ◌≤◌}
+use native.Mathlib.Omega.{arith}
+use borrow.Author.Rules.{rules}
+use Rattle.model.specs.declared.Counts.{Counts}
+use Rattle.model.specs.Data.{read}
+use Rattle.tables.specs.Layout.{plan_entry}
+use Rattle.tables.proofs.Laws.{small}
+use Rattle.parts.proofs.Parts.{places-are, part-asked, part-is}
+use Rattle.energy.proofs.Laws.{few-plants}
+use Rattle.energy_table.proofs.Laws.{season_energy, part-season, Filled, fill_none, fill_one, year-end, energies}
+use Rattle.energy_table.proofs.fill_energies.Given as goal
+
+-- Each loop keeps the number of the next year, plant and season in `place`, and every number below it filled.
+abbrev pub UpTo : List ℕ → List ℕ → Counts → List (List ℕ) → ℕ → Type 0
+UpTo «data» plan c energy place = Filled (season_energy (read «data») (plan_entry c plan)) c.plants c.seasons energy place
+
+abbrev pub invariant-loop-q : goal.invariant-loop-q
+invariant-loop-q l = (l.q ≤ l.c.seasons) × (l.place ≡ (l.y * l.c.plants + l.g) * l.c.seasons + l.q) × ((l.y * l.c.plants + l.g) * l.c.seasons ≤ 1276) × UpTo l.«data» l.plan l.c l.energy l.place
+
+abbrev pub decreases-loop-q : goal.decreases-loop-q
+decreases-loop-q l = l.c.seasons - l.q
+
+abbrev pub invariant-loop-g : goal.invariant-loop-g
+invariant-loop-g l = (l.g ≤ l.c.plants) × (l.place ≡ (l.y * l.c.plants + l.g) * l.c.seasons) × UpTo l.«data» l.plan l.c l.energy l.place
+
+abbrev pub decreases-loop-g : goal.decreases-loop-g
+decreases-loop-g l = l.c.plants - l.g
+
+abbrev pub invariant-loop-y : goal.invariant-loop-y
+invariant-loop-y l = (l.y ≤ l.c.years) × (l.place ≡ l.y * l.c.plants * l.c.seasons) × UpTo l.«data» l.plan l.c l.energy l.place
+
+abbrev pub decreases-loop-y : goal.decreases-loop-y
+decreases-loop-y l = l.c.years - l.y

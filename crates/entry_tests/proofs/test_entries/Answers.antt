@@ -1,0 +1,106 @@
+use mathlib.Core.Path.{refl, sym, ap, ◌∙◌}
+use Prim.Native.Nat.{◌+◌, ◌-◌, ◌<◌}
+use lib.ListN.{length}
+use native.Mathlib.Omega.{arith}
+use borrow.Author.Rules.{rules}
+use borrow.Author.Tests.{not-true, not-false}
+use Rattle.sums.specs.Index.{inside}
+use Rattle.sums.proofs.Spans.{upto-stop}
+use Rattle.model.specs.Data.{read, table_count}
+use Rattle.model.specs.Tests.{unless}
+use Rattle.tables.specs.Layout.{start_from, table_sets, outcome}
+use Rattle.tables.proofs.Laws.{start-zero}
+use Rattle.tables.proofs.Walk.{Reached, begun, turned, ended}
+use Rattle.entry_tests.proofs.Entries.{at_slice, at_second, at_first, at_year, table_fault, all-tables, next-table, box-faults, place-below, tested}
+use Rattle.entry_tests.proofs.test_entries.Goals as goal
+
+pub walk-init : goal.walk-init
+walk-init c = begun refl (start-zero _ table_sets 7)
+
+pub loop-y-init : goal.loop-y-init
+loop-y-init c =
+    let w = c.walk.invariant in
+    begun w.going (omega (arith, w.here))
+
+pub loop-i-init : goal.loop-i-init
+loop-i-init c = begun c.loop-y.invariant.going c.loop-y.invariant.here
+
+pub loop-j-init : goal.loop-j-init
+loop-j-init c = begun c.loop-i.invariant.going c.loop-i.invariant.here
+
+pub range_at-r-requires : goal.range_at-r-requires
+range_at-r-requires c =
+    (c.requires, (c.walk-test.true, rw c.table_box-b.ensures.0 at c.loop-i-test.true))
+
+pub loop-s-init : goal.loop-s-init
+loop-s-init c = begun c.loop-j.invariant.going c.loop-j.invariant.here
+
+pub offset_bounds-data-place : goal.offset_bounds-data-place
+offset_bounds-data-place c = let below : c.loop-s.place < length c.args.«data».now = place-below c.requires c.walk-test.true c.table_box-b.ensures.0
+    c.loop-y-test.true c.loop-i-test.true c.loop-j-test.true c.loop-s-test.true c.loop-s.invariant.here in omega (arith, below)
+
+pub bounds-data-place : goal.bounds-data-place
+bounds-data-place c = let below : c.loop-s.place < length c.args.«data».now = place-below c.requires c.walk-test.true c.table_box-b.ensures.0
+    c.loop-y-test.true c.loop-i-test.true c.loop-j-test.true c.loop-s-test.true c.loop-s.invariant.here in omega (arith, below)
+
+pub overflow_add-place : goal.overflow_add-place
+overflow_add-place c = let below : c.loop-s.place < length c.args.«data».now = place-below c.requires c.walk-test.true c.table_box-b.ensures.0
+    c.loop-y-test.true c.loop-i-test.true c.loop-j-test.true c.loop-s-test.true c.loop-s.invariant.here in omega (arith, below)
+
+pub loop-s-preserved : goal.loop-s-preserved
+unfolding unless
+loop-s-preserved c =
+    let v = c.loop-s in
+    let entry =
+    tested c.requires c.walk-test.true c.table_box-b.ensures.0
+    c.loop-y-test.true c.loop-i-test.true c.loop-j-test.true c.loop-s-test.true v.invariant.here
+    (c.range_at-r.ensures c.loop-y.y v.s) c.in_range.ensures in
+    turned v.invariant c.loop-s-test.true v.invariant.going (entry ∙ rw (c.if-not-in_range.false)) (omega (arith, v.invariant.here))
+
+pub loop-j-preserved : goal.loop-j-preserved
+loop-j-preserved c =
+    let i = c.loop-s in
+    let e = ended i.invariant c.loop-s-test.false in
+    turned c.loop-j.invariant c.loop-j-test.true i.invariant.going e.0 (omega (arith, e.1))
+
+pub loop-i-preserved : goal.loop-i-preserved
+loop-i-preserved c =
+    let i = c.loop-j in
+    let e = ended i.invariant c.loop-j-test.false in
+    turned c.loop-i.invariant c.loop-i-test.true i.invariant.going e.0 (omega (arith, e.1))
+
+pub loop-y-preserved : goal.loop-y-preserved
+loop-y-preserved c =
+    let i = c.loop-i in
+    let e = ended i.invariant c.loop-i-test.false in
+    turned c.loop-y.invariant c.loop-y-test.true i.invariant.going e.0 (omega (arith, e.1))
+
+pub walk-preserved : goal.walk-preserved
+walk-preserved c =
+    let i = c.loop-y in
+    let e = ended i.invariant c.loop-y-test.false in
+    turned c.walk.invariant c.walk-test.true i.invariant.going
+    (box-faults c.requires c.walk-test.true c.table_box-b.ensures.0 ∙ e.0)
+    (e.1 ∙ next-table c.requires c.walk-test.true c.table_box-b.ensures.0)
+
+pub returns-after-walk : goal.returns-after-walk
+returns-after-walk c =
+    let w = c.walk in
+    w.invariant.going ∙ sym (ap outcome (all-tables (read c.args.«data».now) ∙ (ended w.invariant c.walk-test.false).0))
+
+pub returns-then-not-in_range : goal.returns-then-not-in_range
+unfolding unless
+returns-then-not-in_range c =
+    let v = c.loop-s in
+    let entry =
+    tested c.requires c.walk-test.true c.table_box-b.ensures.0
+    c.loop-y-test.true c.loop-i-test.true c.loop-j-test.true c.loop-s-test.true v.invariant.here
+    (c.range_at-r.ensures c.loop-y.y v.s) c.in_range.ensures in
+    sym (ap outcome
+    (all-tables (read c.args.«data».now)
+    ∙ upto-stop _ _ _ c.walk-test.true c.walk.invariant.so
+    (box-faults c.requires c.walk-test.true c.table_box-b.ensures.0
+    ∙ upto-stop _ _ _ c.loop-y-test.true c.loop-y.invariant.so
+    (upto-stop _ _ _ c.loop-i-test.true c.loop-i.invariant.so
+    (upto-stop _ _ _ c.loop-j-test.true c.loop-j.invariant.so
+    (upto-stop _ _ _ c.loop-s-test.true v.invariant.so (entry ∙ rw (c.if-not-in_range.true))))))))

@@ -1,0 +1,8 @@
+use mathlib.Core.Path.{refl}
+use Rattle.exports.specs.Figures.{figures}
+use borrow.Author.Rules.{rules}
+use Rattle.exports.proofs.put.Goals as goal
+
+pub returns : goal.returns
+unfolding figures
+returns c = (refl, refl)

@@ -1,0 +1,16 @@
+use mathlib.Core.Path.{◌∙◌}
+use mathlib.Core.Bool.{not}
+use Prim.Native.Nat.{◌-◌}
+use native.Mathlib.Omega.{arith}
+use lib.Dec.{eqb}
+use Rattle.sums.specs.Sum.{on}
+use Rattle.model.specs.Data.{read, tl, most32}
+use Rattle.terms.proofs.Laws.{Added, added_none, added_more, added-all}
+use borrow.Author.Rules.{rules}
+use Rattle.link_limits.proofs.limits_into.Given as goal
+
+abbrev pub invariant-loop-u : goal.invariant-loop-u
+invariant-loop-u l = Added l.c.zones most32 (λ u. on (not (eqb u l.z)) (tl (read l.«data») l.y u l.z l.q)) l.u l.total
+
+abbrev pub decreases-loop-u : goal.decreases-loop-u
+decreases-loop-u l = l.c.zones - l.u

@@ -1,0 +1,21 @@
+use mathlib.Core.Path.{◌∙◌}
+use mathlib.Core.Bool.{not}
+use Prim.Native.Nat.{◌-◌}
+use native.Mathlib.Omega.{arith}
+use lib.Dec.{eqb}
+use Rattle.sums.specs.Sum.{least, on}
+use Rattle.model.specs.Data.{read, tl, most32}
+use Rattle.terms.proofs.Laws.{Added, added_none, added_more, added-all}
+use borrow.Author.Rules.{rules}
+use Rattle.link_limits.proofs.lowest_limits_into.Goals as goal
+
+pub loop-u-init : goal.loop-u-init
+loop-u-init c = added_none
+
+pub loop-u-preserved : goal.loop-u-preserved
+loop-u-preserved c =
+    added_more c.loop-u.invariant c.loop-u-test.true
+    (c.where_other-total.ensures.0 ∙ rw c.lowest_limit.ensures.0) (omega arith)
+
+pub returns : goal.returns
+returns c = (added-all c.loop-u.invariant c.loop-u-test.false, omega arith)

@@ -1,0 +1,21 @@
+use mathlib.Core.Path.{◌∙◌}
+use mathlib.Core.Bool.{not}
+use Prim.Native.Nat.{◌*◌, ◌-◌}
+use lib.Dec.{eqb}
+use Rattle.sums.specs.Sum.{on}
+use Rattle.tables.specs.Layout.{plan_entry}
+use Rattle.links.specs.Links.{link}
+use Rattle.terms.proofs.Laws.{plus-on, Summed, summed-none, summed-more, summed-all}
+use borrow.Author.Rules.{rules}
+use Rattle.links.proofs.flows.Goals as goal
+
+pub loop-u-init : goal.loop-u-init
+loop-u-init c = summed-none c.zero-total.ensures
+
+pub loop-u-preserved : goal.loop-u-preserved
+loop-u-preserved c =
+    let h = c.loop-u.invariant in
+    summed-more h c.loop-u-test.true (c.add_product_if-total.ensures ∙ rw (h.is, c.flow_between-flow.ensures, plus-on))
+
+pub returns : goal.returns
+returns c = summed-all c.loop-u.invariant c.loop-u-test.false

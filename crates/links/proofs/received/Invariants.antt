@@ -1,0 +1,17 @@
+use mathlib.Core.Path.{◌∙◌}
+use mathlib.Core.Bool.{not}
+use Prim.Native.Nat.{◌*◌, ◌-◌}
+use lib.Dec.{eqb}
+use Rattle.sums.specs.Sum.{on}
+use Rattle.model.specs.Data.{read, loss}
+use Rattle.model.specs.Columns.{trans}
+use Rattle.tables.specs.Layout.{plan_entry}
+use Rattle.terms.proofs.Laws.{plus-on, Summed, summed-none, summed-more, summed-all}
+use borrow.Author.Rules.{rules}
+use Rattle.links.proofs.received.Given as goal
+
+abbrev pub invariant-loop-u : goal.invariant-loop-u
+invariant-loop-u l = Summed l.c.zones (λ u. on (not (eqb u l.z)) ((1000 - loss (read l.«data») l.y u l.z) * plan_entry l.c l.plan (trans l.y u l.z l.s))) l.u l.total
+
+abbrev pub decreases-loop-u : goal.decreases-loop-u
+decreases-loop-u l = l.c.zones - l.u

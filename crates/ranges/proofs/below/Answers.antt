@@ -1,0 +1,5 @@
+use borrow.Author.Rules.{rules}
+use Rattle.ranges.proofs.below.Goals as goal
+
+pub returns : goal.returns
+returns c = rw c.narrow.ensures

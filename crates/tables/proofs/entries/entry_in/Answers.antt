@@ -1,0 +1,14 @@
+use native.Mathlib.Omega.{arith}
+use mathlib.Core.Path.{◌∙◌}
+use Rattle.tables.proofs.Laws.{entry-below, entry-is}
+use borrow.Author.Rules.{rules}
+use Rattle.tables.proofs.entries.entry_in.Goals as goal
+
+pub overflow_add-tables_at : goal.overflow_add-tables_at
+overflow_add-tables_at c = omega (arith, entry-below c.requires, c.inside_of-o.ensures)
+
+pub number_at-requires : goal.number_at-requires
+number_at-requires c = rw c.inside_of-o.ensures (entry-below c.requires)
+
+pub returns : goal.returns
+returns c = (c.number_at.ensures.0 ∙ rw c.inside_of-o.ensures (entry-is c.requires), c.number_at.ensures.1)

@@ -1,0 +1,14 @@
+use native.Mathlib.Omega.{arith}
+use mathlib.Core.Path.{◌∙◌}
+use Rattle.tables.proofs.Laws.{column-below, column-is}
+use borrow.Author.Rules.{rules}
+use Rattle.tables.proofs.entries.planned_in.Goals as goal
+
+pub overflow_add-columns_at : goal.overflow_add-columns_at
+overflow_add-columns_at c = omega (arith, column-below c.requires, c.inside_of-o.ensures)
+
+pub number_at-requires : goal.number_at-requires
+number_at-requires c = rw c.inside_of-o.ensures (column-below c.requires)
+
+pub returns : goal.returns
+returns c = (c.number_at.ensures.0 ∙ rw c.inside_of-o.ensures (column-is c.requires), c.number_at.ensures.1)

@@ -1,0 +1,5 @@
+use borrow.Author.Rules.{rules}
+use Rattle.tables.proofs.plants.is_battery.Goals as goal
+
+pub returns : goal.returns
+returns c = rw c.by_plant.ensures.0

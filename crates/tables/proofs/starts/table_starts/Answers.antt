@@ -1,0 +1,5 @@
+use borrow.Author.Rules.{rules}
+use Rattle.tables.proofs.starts.table_starts.Goals as goal
+
+pub returns : goal.returns
+returns c = c.starts_from.ensures

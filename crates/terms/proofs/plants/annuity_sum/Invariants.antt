@@ -1,0 +1,19 @@
+use mathlib.Core.Path.{◌∙◌}
+use Prim.Native.Nat.{◌*◌, ◌-◌}
+use Rattle.sums.specs.Sum.{on}
+use Rattle.model.specs.Data.{read, candidate, rate, weight, annuity}
+use Rattle.model.specs.Columns.{cap}
+use Rattle.tables.specs.Layout.{plan_entry}
+use Rattle.terms.proofs.Laws.{plus-on, Summed, summed-none, summed-more, summed-all}
+use borrow.Author.Rules.{rules}
+use Rattle.terms.proofs.plants.annuity_sum.Given as goal
+
+abbrev pub invariant-loop-g : goal.invariant-loop-g
+invariant-loop-g l = Summed
+    l.c.plants
+    (λ g. on (candidate (read l.«data») g) (rate (read l.«data») l.y * weight (read l.«data») l.y * annuity (read l.«data») l.y g * plan_entry l.c l.plan (cap l.y g)))
+    l.g
+    l.total
+
+abbrev pub decreases-loop-g : goal.decreases-loop-g
+decreases-loop-g l = l.c.plants - l.g

@@ -1,0 +1,24 @@
+use mathlib.Core.Path.{◌∙◌}
+use Prim.Native.Nat.{◌*◌, ◌-◌}
+use lib.Dec.{eqb}
+use Rattle.sums.specs.Sum.{on}
+use Rattle.model.specs.Data.{read, zone, cap_credit}
+use Rattle.model.specs.Columns.{cap}
+use Rattle.tables.specs.Layout.{plan_entry}
+use Rattle.terms.proofs.Laws.{plus-on, Summed, summed-none, summed-more, summed-all}
+use borrow.Author.Rules.{rules}
+use Rattle.terms.proofs.plants.credit_sum.Goals as goal
+
+pub loop-g-init : goal.loop-g-init
+loop-g-init c = summed-none c.zero-total.ensures
+
+pub loop-g-preserved : goal.loop-g-preserved
+loop-g-preserved c =
+    let h = c.loop-g.invariant in
+    let zone-is = c.by_plant.ensures.0 in
+    let credit-is = c.by_plant-credit.ensures.0 in
+    let capacity-is = c.planned_by_year_plant.ensures.0 in
+    summed-more h c.loop-g-test.true (c.add_product_if-total.ensures ∙ rw (h.is, zone-is, credit-is, capacity-is, plus-on))
+
+pub returns : goal.returns
+returns c = summed-all c.loop-g.invariant c.loop-g-test.false

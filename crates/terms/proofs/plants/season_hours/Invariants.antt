@@ -1,0 +1,15 @@
+use Prim.Native.Nat.{◌+◌, ◌*◌, ◌-◌, ◌≤◌}
+use native.Mathlib.Nat.{mul-le-mul}
+use native.Mathlib.Omega.{arith}
+use Rattle.model.specs.Counts.{season_length}
+use Rattle.model.specs.Data.{read, duration, most32}
+use Rattle.tables.proofs.Laws.{small}
+use Rattle.terms.proofs.Laws.{few-season-slices, season-slice-below, Added, added_none, added_more, added-all}
+use borrow.Author.Rules.{rules}
+use Rattle.terms.proofs.plants.season_hours.Given as goal
+
+abbrev pub invariant-loop-i : goal.invariant-loop-i
+invariant-loop-i l = Added (season_length l.c) most32 (λ i. duration (read l.«data») (l.q * season_length l.c + i)) l.i l.total
+
+abbrev pub decreases-loop-i : goal.decreases-loop-i
+decreases-loop-i l = season_length l.c - l.i

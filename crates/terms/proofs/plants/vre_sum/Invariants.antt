@@ -1,0 +1,21 @@
+use mathlib.Core.Path.{◌∙◌}
+use Prim.Native.Nat.{◌+◌, ◌*◌, ◌-◌}
+use lib.Dec.{eqb}
+use lib.ListN.{get_or}
+use Rattle.sums.specs.Sum.{on}
+use Rattle.model.specs.Counts.{slices_of}
+use Rattle.model.specs.Data.{read, zone, is_vre}
+use Rattle.sums.proofs.Tests.{on_both}
+use Rattle.terms.proofs.Laws.{plus-on, Summed, summed-none, summed-more, summed-all}
+use borrow.Author.Rules.{rules}
+use Rattle.terms.proofs.plants.vre_sum.Given as goal
+
+abbrev pub invariant-loop-g : goal.invariant-loop-g
+invariant-loop-g l = Summed
+    l.c.plants
+    (λ g. on (eqb (zone (read l.«data») g) l.z) (on (is_vre (read l.«data») g) (l.err * get_or l.part (g * slices_of l.c + l.s) 0)))
+    l.g
+    l.total
+
+abbrev pub decreases-loop-g : goal.decreases-loop-g
+decreases-loop-g l = l.c.plants - l.g

@@ -1,0 +1,13 @@
+use Prim.Native.Nat.{◌-◌}
+use borrow.Author.Rules.{rules}
+use lib.ListN.{length}
+use Rattle.texts.specs.Buffers.{line_in, text_in}
+use Rattle.texts.proofs.BufferLaws.{room-kept}
+use Rattle.text_reader.proofs.Laws.{Reached, reached-start, reached-end, reached-unended, reached-frame, reached-next}
+use Rattle.text_reader.proofs.read_text.Given as goal
+
+abbrev pub invariant-loop-at : goal.invariant-loop-at
+invariant-loop-at l = Reached l.text l.at l.number l.used l.«data» l.plan l.scal l.dual
+
+abbrev pub decreases-loop-at : goal.decreases-loop-at
+decreases-loop-at l = length l.text - l.at
