@@ -1,6 +1,6 @@
 // The certify program of document 01: reads standard input, and prints `A cost gap` or `R number place`.
 // What a call of the operating system reads or writes is outside every contract; `answer` has the contract of all that lies between.
-// A program has no exit status of its own here: the line is the answer, and where there is none standard error says why.
+// Its exit status says nothing: the line is the answer, and where there is none standard error says why.
 #![tactic(auto)]
 
 ghost use Rattle.std.specs.Prelude.{◌≡◌, ◌≤◌, length};
