@@ -73,9 +73,9 @@ OLD_WORDS = {"pre": "requires", "taken": "true", "left": "false", "inv": "invari
 COMMON = {"args", "requires", "ranges", "well_formed", "type_inv", "lifetimes", "auto", "utf8"}
 
 
-def turn_paths(body, places, start, said):
+def turn_paths(body, places, start, said, binder="c"):
     """The text of an answer, its paths written by today's names."""
-    alias = {"c": start}
+    alias = {binder: start}
     # Bind names of places first, in the order of the text.
     let = re.compile(r"let (" + NAME + r") = (" + NAME + r")((?:\.before)*) in\s*")
     while True:
@@ -98,11 +98,12 @@ def turn_paths(body, places, start, said):
         p = alias[name]
         if fields and (fields[0] in ("pre", "fits")):
             fields[0] = OLD_WORDS[fields[0]]
-        fields = [OLD_WORDS.get(f, f) if f not in ("fits", "pre") and k else f for k, f in enumerate(fields)]
+        tested = lambda k: fields[k] not in ("taken", "left") or fields[k - 1].startswith("if") or fields[k - 1].endswith("test")
+        fields = [OLD_WORDS.get(f, f) if f not in ("fits", "pre") and k and tested(k) else f for k, f in enumerate(fields)]
         fields = ["requires" if f == "pre" and all(g == "before" for g in fields[:k]) else f for k, f in enumerate(fields)]
         if not fields:
-            if name == "c":
-                return m[0]
+            if name == binder:
+                return "c"
             said.append(f"a place alone: {name}")
             return m[0]
         while fields and fields[0] == "before":
@@ -123,6 +124,13 @@ def turn_paths(body, places, start, said):
         while q:
             old, new = places.step(q)
             if norm(old) == norm(fields[0]) or norm(new) == norm(fields[0]):
+                return "c." + ".".join([new] + fields[1:])
+            q = places.parent(q)
+        # A walk may have more steps than it had: the last step of this name on the way to the goal.
+        q = alias[name]
+        while q:
+            old, new = places.step(q)
+            if norm(old) == norm(fields[0]):
                 return "c." + ".".join([new] + fields[1:])
             q = places.parent(q)
         said.append(f"no step: {m[0]}")
@@ -191,7 +199,10 @@ def turn(crate, folder, d):
     groups = []
     for com, it in items:
         m = re.match(r"(?:abbrev pub |abbrev |pub |unfoldable pub |unfoldable )?(" + NAME + r") :\s", it)
-        if m and not it.startswith(("unfolding ",)):
+        rules = re.match(r"(?:pub )?ruleset (\S+) =", it)
+        if rules:
+            groups.append([rules[1], com, [it]])
+        elif m and not it.startswith(("unfolding ",)):
             groups.append([m[1], com, [it]])
         elif groups:
             groups[-1][2] += com + [it]
@@ -216,6 +227,10 @@ def turn(crate, folder, d):
     invariants = [n for n in order if re.search(r": tie\.(invariant|decreases)", types.get(n, ""))]
     answers = [n for n in order if n not in invariants]
     needs = d["needs"]
+    if len(answers) != len(needs):
+        # Goals that Rattle has no more.
+        answers = [n for n in answers if not re.search(r"Need-slice-aggregate-", types.get(n, ""))]
+        groups = [g for g in groups if not re.search(r"Need-slice-aggregate-", types[g[0]])]
     if len(answers) != len(needs):
         print(f"left: {path}: {len(answers)} answers for {len(needs)} goals: {[n[0] for n in needs]}")
         return False
@@ -280,14 +295,17 @@ def turn(crate, folder, d):
                 while lines and lines[0].startswith(" ") and not re.match(re.escape(name) + r"\b", lines[0]):
                     unfolding.append(lines.pop(0))
             body = "\n".join(lines)
-            body = re.sub(r"(?m)^" + re.escape(name) + r"( c)?( κs)?(?=\s)", lambda m: new + (m[1] or ""), body)
+            binder = re.match(re.escape(name) + r" ([^\s=]+)( κs)? =", body)
+            binder = binder[1] if binder else "c"
+            body = re.sub(r"(?m)^" + re.escape(name) + r"( " + re.escape(binder) + r")?( κs)?(?=\s)", lambda m: new + (" c" if m[1] else ""), body, count=1)
             for s, (claim, proof) in shared.items():
                 use = re.compile(r"\(?\b" + re.escape(s) + r" c(?:\.before)*(?![.\w])\)?")
                 if use.search(body):
                     body = re.sub(re.escape(s) + r" c(?:\.before)*(?![.\w])", s, body)
                     head, rest = body.split("=", 1)
                     body = f"{head}= let {s} : {claim} = {proof} in {rest.strip()}"
-            body = turn_paths(body, places, start, said)
+            head, rest = body.split("=", 1)
+            body = head + "=" + turn_paths(rest, places, start, said, binder)
             # The test of an `if !b` says `b ≡ false` today, where it said `not b ≡ true`.
             body = re.sub(r"\bnot-(?:true|false) " + NAME + r"(?:\.[^\s()]+)* (c(?:\.[^\s()]+)*\.(?:true|false))", r"\1", body)
             body = body.replace(".type-inv", ".type_inv").replace(".well-formed", ".well_formed")

@@ -1,0 +1,11 @@
+use native.Mathlib.Omega.{arith}
+use Rattle.model.specs.Standing.{total_in_slice⁺}
+use Rattle.column_terms.proofs.Laws.{none-priced, add-priced, add-priced-if, priced-as}
+use borrow.Author.Rules.{rules}
+use Rattle.cable_columns.proofs.total_in_slice.Goals as goal
+
+pub returns : goal.returns
+unfolding total_in_slice⁺
+returns c D power =
+    let t1 = add-priced (none-priced c.none.ensures) c.add_row-p.ensures in
+    priced-as (add-priced-if t1 _ c.add_row_if.ensures) _ _ (λ m. rw (← power) (omega arith)) (λ m. omega arith)

@@ -1,0 +1,34 @@
+use mathlib.Core.Path.{sym, ◌∙◌}
+use Prim.Native.Nat.{◌-◌}
+use native.Mathlib.Omega.{arith}
+use Rattle.sums.specs.Linear.{nothing}
+use Rattle.sums.proofs.Sums.{sum-const-zero}
+use Rattle.model.specs.Data.{read}
+use Rattle.model.specs.Counts.{slices_of}
+use Rattle.model.specs.Standing.{total_in_slice⁺}
+use Rattle.column_terms.proofs.Laws.{Walked, none-priced, priced-as, walked_none, walked_more, walked_all}
+use Rattle.cable_columns.proofs.Groups.{no_power}
+use borrow.Author.Rules.{rules}
+use Rattle.cable_columns.proofs.total_in_slices.Goals as goal
+
+pub returns-then-power-eq0 : goal.returns-then-power-eq0
+returns-then-power-eq0 c =
+    priced-as (none-priced c.none-p.ensures) _ _ (λ m. no_power _ _ _ _ _ m (sym c.by_pair-power.ensures.0 ∙ c.if-power-eq0.true)) (λ m. omega arith)
+
+pub loop-s-init : goal.loop-s-init
+loop-s-init c = walked_none c.none-p.ensures
+
+pub total_in_slice-requires : goal.total_in_slice-requires
+total_in_slice-requires c =
+    let p = c.requires in
+    ((p.0.tables_at.counted, (p.0.rows_at, c.by_pair-power.ensures.1)), (p.1.0, (p.1.1.0, (p.1.1.1, omega (arith, c.slices_of-n.ensures.0, c.loop-s-test.true)))))
+
+pub loop-s-preserved : goal.loop-s-preserved
+loop-s-preserved c =
+    walked_more c.loop-s.invariant (omega (arith, c.slices_of-n.ensures.0, c.loop-s-test.true))
+    (c.total_in_slice.ensures _ c.by_pair-power.ensures.0) c.join-p.ensures
+
+pub returns : goal.returns
+returns c =
+    let all = walked_all c.loop-s.invariant (omega (arith, c.slices_of-n.ensures.0, c.loop-s-test.false)) in
+    priced-as (record { is = all }) _ _ (λ m. omega arith) (λ m. sum-const-zero _)

@@ -1,0 +1,13 @@
+use borrow.Author.Rules.{rules}
+use Prim.Native.Nat.{◌-◌}
+use Rattle.sums.specs.Linear.{nothing}
+use Rattle.model.specs.Data.{read}
+use Rattle.capacity_columns.specs.Groups.{cap_in_season⁺}
+use Rattle.column_terms.proofs.Laws.{Walked, walked_none, walked_more, walked_all}
+use Rattle.capacity_columns.proofs.cap_in_seasons.Given as goal
+
+abbrev pub invariant-loop-q : goal.invariant-loop-q
+invariant-loop-q l = Walked l.c l.ms l.c.seasons (cap_in_season⁺ (read l.«data») l.y l.g) (λ _. nothing) l.q l.p
+
+abbrev pub decreases-loop-q : goal.decreases-loop-q
+decreases-loop-q l = l.c.seasons - l.q

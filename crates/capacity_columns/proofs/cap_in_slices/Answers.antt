@@ -1,0 +1,24 @@
+use borrow.Author.Rules.{rules}
+use Prim.Native.Nat.{◌-◌}
+use native.Mathlib.Omega.{arith}
+use Rattle.model.specs.Data.{read}
+use Rattle.model.specs.Counts.{slices_of}
+use Rattle.model.specs.Standing.{cap_in_slice⁺}
+use Rattle.capacity_columns.specs.Groups.{cap_in_slice⁻}
+use Rattle.column_terms.proofs.Laws.{Walked, walked_none, walked_more, walked_all}
+use Rattle.capacity_columns.proofs.cap_in_slices.Goals as goal
+
+pub loop-s-init : goal.loop-s-init
+loop-s-init c = walked_none c.none-p.ensures
+
+pub cap_in_slice-requires : goal.cap_in_slice-requires
+cap_in_slice-requires c =
+    let p = c.requires in
+    (p.0, (c.rates_of-rates.ensures, (p.1.0, (p.1.1, omega (arith, c.slices_of-n.ensures.0, c.loop-s-test.true)))))
+
+pub loop-s-preserved : goal.loop-s-preserved
+loop-s-preserved c =
+    walked_more c.loop-s.invariant (omega (arith, c.slices_of-n.ensures.0, c.loop-s-test.true)) c.cap_in_slice.ensures c.join-p.ensures
+
+pub returns : goal.returns
+returns c = walked_all c.loop-s.invariant (omega (arith, c.slices_of-n.ensures.0, c.loop-s-test.false))

@@ -1,0 +1,10 @@
+use mathlib.Core.Path.{◌∙◌}
+use Rattle.column_terms.proofs.Sound.{zone-below}
+use borrow.Author.Rules.{rules}
+use Rattle.column_terms.proofs.readers.zone_of.Goals as goal
+
+pub returns : goal.returns
+returns c =
+    let e = c.place.ensures ∙ c.by_plant.ensures.0 in
+    let p = c.requires in
+    (e, rw e (zone-below p.0 p.1.0 p.1.1))

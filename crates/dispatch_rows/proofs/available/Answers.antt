@@ -1,0 +1,21 @@
+use mathlib.Core.Path.{refl, ◌∙◌}
+use Rattle.model.specs.Data.{read, duration}
+use Rattle.model.specs.Families.{available}
+use Rattle.energy.proofs.Laws.{season-is, available-energy}
+use Rattle.row_sums.specs.Ready.{sides_of}
+use Rattle.row_sums.proofs.Laws.{two-sums, plain}
+use Rattle.dispatch_rows.proofs.Laws.{product3-is}
+use borrow.Author.Rules.{rules}
+use Rattle.dispatch_rows.proofs.available.Goals as goal
+
+pub returns : goal.returns
+unfolding sides_of available
+returns c N =
+    let p = c.requires in
+    let D = read c.args.«data».now in
+    let n = p.0.0.counts in
+    plain N _ _
+    (two-sums _ _
+    (product3-is c.add_product3-above.ensures c.zero.ensures c.by_plant_season-rate.ensures.0
+    (c.season_hours.ensures.0 ∙ season-is D _ (λ s. duration D s) n refl) c.planned_by_year_plant.ensures.0)
+    (c.scale.ensures ∙ rw c.energy_at.ensures (available-energy p.0.1.1 n p.1.0 _ _ p.1.1.0 p.1.1.1)))

@@ -1,0 +1,14 @@
+use mathlib.Core.Path.{refl}
+use Rattle.row_sums.specs.Ready.{sides_of}
+use Rattle.row_sums.proofs.Laws.{product_is, two-sums, plain}
+use Rattle.dispatch_rows.proofs.Laws.{part-entry}
+use borrow.Author.Rules.{rules}
+use Rattle.dispatch_rows.proofs.offer.Goals as goal
+
+pub returns : goal.returns
+unfolding sides_of
+returns c N =
+    let p = c.requires in
+    plain N _ _
+    (two-sums _ _ (product_is c.rate_of_capacity.ensures c.by_plant-rate.ensures.0 refl)
+    (part-entry p.0.1.1 p.1.1.0 p.1.1.1 c.in_thousandths.ensures))

@@ -1,0 +1,11 @@
+use Rattle.constants.specs.Constants.{constant_of}
+use Rattle.row_sums.specs.Ready.{sides_of}
+use Rattle.row_sums.proofs.Laws.{limit}
+use borrow.Author.Rules.{rules}
+use Rattle.fleet_rows.proofs.capital.Goals as goal
+
+pub returns : goal.returns
+unfolding sides_of constant_of
+returns c =
+    let n = c.requires.0.counts in
+    rw n (limit _ _ c.at_most.ensures c.capital_constant.ensures c.capital_sum.ensures)

@@ -1,0 +1,15 @@
+use mathlib.Core.Path.{◌∙◌}
+use Rattle.model.specs.Families.{fuel_use}
+use Rattle.energy.proofs.Laws.{fuel-energy}
+use Rattle.constants.specs.Constants.{constant_of}
+use Rattle.row_sums.specs.Ready.{sides_of}
+use Rattle.row_sums.proofs.Laws.{limit}
+use borrow.Author.Rules.{rules}
+use Rattle.fleet_rows.proofs.fuel_use.Goals as goal
+
+pub returns : goal.returns
+unfolding sides_of constant_of fuel_use
+returns c x n =
+    let p = c.requires in
+    limit _ _ c.at_most.ensures c.fuel_use_constant.ensures
+    (c.burned.ensures ∙ rw (c.long.ensures, c.long-2.ensures) (fuel-energy n p.0.0.counts p.1.0 _ _))

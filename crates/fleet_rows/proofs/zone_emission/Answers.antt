@@ -1,0 +1,15 @@
+use mathlib.Core.Path.{◌∙◌}
+use Rattle.model.specs.Families.{zone_emission}
+use Rattle.energy.proofs.Laws.{zone-energy}
+use Rattle.constants.specs.Constants.{constant_of}
+use Rattle.row_sums.specs.Ready.{sides_of}
+use Rattle.row_sums.proofs.Laws.{limit}
+use borrow.Author.Rules.{rules}
+use Rattle.fleet_rows.proofs.zone_emission.Goals as goal
+
+pub returns : goal.returns
+unfolding sides_of constant_of zone_emission
+returns c x n =
+    let p = c.requires in
+    limit _ _ c.at_most.ensures c.zone_emission_constant.ensures
+    (c.emitted_in.ensures ∙ rw c.long.ensures (zone-energy n p.0.0.counts p.1.0 _))

@@ -1,0 +1,9 @@
+use mathlib.Core.Path.{◌∙◌}
+use Rattle.gap.proofs.Laws.{term_is}
+use borrow.Author.Rules.{rules}
+use Rattle.gap.proofs.add_term.Goals as goal
+
+pub returns : goal.returns
+returns c =
+    let p = c.requires in
+    c.with_row.ensures ∙ rw (c.multiplier_at-m.ensures, c.constant_at.ensures) (term_is _ _ _ _ p.0.counts)

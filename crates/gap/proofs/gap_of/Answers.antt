@@ -1,0 +1,11 @@
+use mathlib.Core.Path.{◌∙◌}
+use Rattle.gap.specs.Signs.{terms_of}
+use Rattle.gap.proofs.Laws.{certified}
+use borrow.Author.Rules.{rules}
+use Rattle.gap.proofs.gap_of.Goals as goal
+
+pub returns : goal.returns
+unfolding terms_of
+returns c =
+    let t = c.constant_terms-t.ensures in
+    c.certificate_of.ensures ∙ certified _ _ _ _ c.requires.1.1.1 (c.scale.ensures ∙ rw t) (c.scale-2.ensures ∙ rw t)

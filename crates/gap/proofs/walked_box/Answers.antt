@@ -1,0 +1,15 @@
+use mathlib.Core.Path.{sym, ◌∙◌}
+use Rattle.tables.proofs.Members.{family-box}
+use Rattle.gap.specs.Signs.{walked_box}
+use borrow.Author.Rules.{rules}
+use Rattle.gap.proofs.walked_box.Goals as goal
+
+pub returns-then-has_constant : goal.returns-then-has_constant
+unfolding walked_box
+returns-then-has_constant c =
+    rw (← c.has_constant.ensures, c.if-has_constant.true)
+    (c.box_of.ensures.0 ∙ rw c.family_at-f.ensures (sym (family-box _ c.requires.1)))
+
+pub returns : goal.returns
+unfolding walked_box
+returns c = rw (← c.has_constant.ensures, c.if-has_constant.false)

@@ -1,0 +1,13 @@
+use Rattle.tables.specs.Layout.{plan_entry}
+use Rattle.hour_costs.proofs.Laws.{hours-priced}
+use borrow.Author.Rules.{rules}
+use Rattle.hour_costs.proofs.slices_cost.Goals as goal
+
+pub returns : goal.returns
+returns c =
+    hours-priced _ c.args.c (plan_entry c.args.c c.args.plan.now) c.requires.1.table _ _ c.slices_at.result.now c.slices_at.ensures.1
+    c.year_weight-share.ensures
+    c.hour_price.ensures
+    c.scale-price.ensures
+    c.weighted_hours-hours.ensures
+    c.multiply.ensures

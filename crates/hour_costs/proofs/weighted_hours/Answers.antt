@@ -1,0 +1,20 @@
+use mathlib.Core.Path.{◌∙◌}
+use Prim.Native.Nat.{◌*◌, ◌-◌}
+use lib.ListN.{get_or, length}
+use Rattle.capped.proofs.Laws.{plus-cap}
+use Rattle.model.specs.Data.{read, duration}
+use Rattle.terms.proofs.Laws.{Summed, summed-none, summed-more, summed-all}
+use borrow.Author.Rules.{rules}
+use Rattle.hour_costs.proofs.weighted_hours.Goals as goal
+
+pub loop-s-init : goal.loop-s-init
+loop-s-init c = summed-none c.zero-total.ensures
+
+pub loop-s-preserved : goal.loop-s-preserved
+loop-s-preserved c =
+    let h = c.loop-s.invariant in
+    summed-more h c.loop-s-test.true
+    (c.add_product-total.ensures ∙ rw (h.is, c.by_slice.ensures.0, c.wide.ensures.0, plus-cap))
+
+pub returns : goal.returns
+returns c = rw (← c.requires.1) (summed-all c.loop-s.invariant c.loop-s-test.false)

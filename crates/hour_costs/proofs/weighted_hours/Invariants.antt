@@ -1,0 +1,14 @@
+use mathlib.Core.Path.{◌∙◌}
+use Prim.Native.Nat.{◌*◌, ◌-◌}
+use lib.ListN.{get_or, length}
+use Rattle.capped.proofs.Laws.{plus-cap}
+use Rattle.model.specs.Data.{read, duration}
+use Rattle.terms.proofs.Laws.{Summed, summed-none, summed-more, summed-all}
+use borrow.Author.Rules.{rules}
+use Rattle.hour_costs.proofs.weighted_hours.Given as goal
+
+abbrev pub invariant-loop-s : goal.invariant-loop-s
+invariant-loop-s l = Summed (length l.part) (λ s. duration (read l.«data») s * get_or l.part s 0) l.s l.total
+
+abbrev pub decreases-loop-s : goal.decreases-loop-s
+decreases-loop-s l = length l.part - l.s

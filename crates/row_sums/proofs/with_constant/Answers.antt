@@ -1,0 +1,8 @@
+use Rattle.constants.specs.Constants.{netted_of}
+use Rattle.row_sums.specs.Ready.{sides_with}
+use borrow.Author.Rules.{rules}
+use Rattle.row_sums.proofs.with_constant.Goals as goal
+
+pub returns : goal.returns
+unfolding sides_with netted_of
+returns c = rw (c.add_product.ensures, c.add_product-2.ensures, c.netted-n.ensures)

@@ -1,0 +1,14 @@
+use mathlib.Core.Path.{sym, ap, ◌∙◌}
+use Rattle.sums.specs.Index.{number, index_of}
+use Rattle.model.specs.declared.Counts.{Counts}
+use Rattle.model.specs.Families.{row_boxes}
+use Rattle.verdicts.proofs.RowVerdicts.{verdict-is}
+use borrow.Author.Rules.{rules}
+use Rattle.row_tests.proofs.test_row.Goals as goal
+
+pub returns : goal.returns
+returns c =
+    let a = c.args in
+    let p = c.requires in
+    c.verdict.ensures ∙ verdict-is _ _ _ (index_of a.p) c.row_sides-sides.ensures p.1.1.1.0
+    (p.1.1.1.1 ∙ ap (λ (c : Counts). number (row_boxes c) (index_of a.p)) (sym p.0.tables_at.counts))

@@ -1,0 +1,135 @@
+use mathlib.Core.Path.{refl, ap, ◌∙◌}
+use Prim.Native.Nat.{◌*◌, ◌-◌}
+use native.Mathlib.Omega.{arith}
+use Rattle.sums.specs.Index.{index}
+use Rattle.model.specs.declared.Family.{Family}
+use Rattle.model.specs.Data.{read}
+use Rattle.model.specs.Families.{row_boxes, family_count}
+use Rattle.model.specs.Tests.{row_fault}
+use Rattle.tables.specs.Layout.{plan_entry}
+use Rattle.tables.proofs.Laws.{small}
+use Rattle.tables.proofs.Steps.{Going, Walked, of_second, of_first, of_year, year_members, none, more, turn, walked_none, walked_more, walked_all}
+use Rattle.tables.proofs.Steps.{member-number, member_below, stopped, outcome-fine, outcome-fails}
+use Rattle.parts.specs.Years.{gen_kind, reserve_kind, charge_kind, level_kind}
+use Rattle.parts.proofs.Parts.{places-are, part-asked}
+use Rattle.rows.proofs.Readiness.{ready}
+use Rattle.row_tests.proofs.Steps.{box-is, inside_is, year-below, family-below, families-end, rows_fit, answered}
+use borrow.Author.Rules.{rules}
+use Rattle.row_tests.proofs.test_rows.Goals as goal
+
+pub slices_of-requires : goal.slices_of-requires
+slices_of-requires c = c.requires.0.counted
+
+pub overflow_mul-places : goal.overflow_mul-places
+overflow_mul-places c = small 32 384 tt c.requires.0.counted.few_plants c.slices_of.ensures.1
+
+pub walk-init : goal.walk-init
+walk-init c = walked_none refl refl
+
+pub family_at-f-requires : goal.family_at-f-requires
+family_at-f-requires c = c.walk-test.true
+
+pub box_of-b-requires : goal.box_of-b-requires
+box_of-b-requires c = c.requires.0.counted
+
+pub loop-y-init : goal.loop-y-init
+loop-y-init c = none c.walk.invariant.accepted
+
+pub year_part-outputs-requires : goal.year_part-outputs-requires
+year_part-outputs-requires c =
+    let p = c.requires in
+    let hy = year-below _ c.walk-test.true c.family_at-f.ensures c.box_of-b.ensures.0 p.0.counted c.loop-y-test.true in
+    part-asked p.0.counted p.1.1.0 hy (places-are c.args.c c.slices_of.ensures.0) gen_kind (omega arith) refl
+
+pub year_part-reserves-requires : goal.year_part-reserves-requires
+year_part-reserves-requires c =
+    let p = c.requires in
+    let hy = year-below _ c.walk-test.true c.family_at-f.ensures c.box_of-b.ensures.0 p.0.counted c.loop-y-test.true in
+    part-asked p.0.counted p.1.1.0 hy (places-are c.args.c c.slices_of.ensures.0) reserve_kind (omega arith) refl
+
+pub year_part-charges-requires : goal.year_part-charges-requires
+year_part-charges-requires c =
+    let p = c.requires in
+    let hy = year-below _ c.walk-test.true c.family_at-f.ensures c.box_of-b.ensures.0 p.0.counted c.loop-y-test.true in
+    part-asked p.0.counted p.1.1.0 hy (places-are c.args.c c.slices_of.ensures.0) charge_kind (omega arith) refl
+
+pub year_part-levels-requires : goal.year_part-levels-requires
+year_part-levels-requires c =
+    let p = c.requires in
+    let hy = year-below _ c.walk-test.true c.family_at-f.ensures c.box_of-b.ensures.0 p.0.counted c.loop-y-test.true in
+    part-asked p.0.counted p.1.1.0 hy (places-are c.args.c c.slices_of.ensures.0) level_kind (omega arith) refl
+
+pub loop-i-init : goal.loop-i-init
+loop-i-init c = none c.loop-y.invariant.accepted
+
+pub loop-j-init : goal.loop-j-init
+loop-j-init c = none c.loop-i.invariant.accepted
+
+pub loop-s-init : goal.loop-s-init
+loop-s-init c = none c.loop-j.invariant.accepted
+
+pub test_row-requires : goal.test_row-requires
+test_row-requires c =
+    let p = c.requires in
+    let l = c.walk-test.true in
+    let f = c.family_at-f.ensures in
+    let b = c.box_of-b.ensures.0 in
+    let hy = c.loop-y-test.true in
+    let hi = c.loop-i-test.true in
+    let hj = c.loop-j-test.true in
+    let hs = c.loop-s-test.true in
+    let y = year-below _ l f b p.0.counted hy in
+    let parts = ready p y (places-are c.args.c c.slices_of.ensures.0) c.year_part-outputs.ensures c.year_part-reserves.ensures c.year_part-charges.ensures c.year_part-levels.ensures in
+    let number = member-number c.walk.invariant (family-below _ l) (box-is _ l f b) c.loop-y.invariant hy c.loop-i.invariant hi c.loop-j.invariant hj c.loop-s.invariant hs in
+    (parts, (l, (inside_is _ l f b hy hi hj hs, (ap (λ (r : Family). r.equal) f, number))))
+
+pub overflow_add-row : goal.overflow_add-row
+overflow_add-row c =
+    let l = c.walk-test.true in
+    let hy = c.loop-y-test.true in
+    let hi = c.loop-i-test.true in
+    let hj = c.loop-j-test.true in
+    let hs = c.loop-s-test.true in
+    let b = box-is _ l c.family_at-f.ensures c.box_of-b.ensures.0 in
+    let few = member_below c.walk.invariant (family-below _ l) b c.loop-y.invariant hy c.loop-i.invariant hi c.loop-j.invariant hj c.loop-s.invariant hs c.box_of-b.ensures.1 in
+    record { fits = omega (arith, rows_fit _ few) }
+
+pub overflow_step-s : goal.overflow_step-s
+overflow_step-s c =
+    record { fits = omega (arith, c.loop-s-test.true, c.box_of-b.ensures.1.few_slices) }
+
+pub loop-s-preserved : goal.loop-s-preserved
+loop-s-preserved c =
+    let h = c.loop-s.invariant in
+    more h c.loop-s-test.true (outcome-fine _ c.test_row.ensures c.in-Fine.is) h.accepted refl
+
+pub loop-j-preserved : goal.loop-j-preserved
+loop-j-preserved c = turn c.loop-j.invariant c.loop-j-test.true c.loop-s.invariant c.loop-s-test.false refl (omega arith)
+
+pub loop-i-preserved : goal.loop-i-preserved
+loop-i-preserved c = turn c.loop-i.invariant c.loop-i-test.true c.loop-j.invariant c.loop-j-test.false refl (omega arith)
+
+pub loop-y-preserved : goal.loop-y-preserved
+loop-y-preserved c =
+    turn c.loop-y.invariant c.loop-y-test.true c.loop-i.invariant c.loop-i-test.false refl (omega arith)
+
+pub walk-preserved : goal.walk-preserved
+walk-preserved c =
+    let l = c.walk-test.true in
+    let b = c.box_of-b.ensures in
+    walked_more c.walk.invariant (family-below _ l) (box-is _ l c.family_at-f.ensures b.0) b.1 c.loop-y.invariant c.loop-y-test.false
+
+pub returns-after-walk : goal.returns-after-walk
+returns-after-walk c =
+    c.walk.invariant.accepted ∙ answered _ _ _ c.requires.0.counts (walked_all c.walk.invariant (families-end _ c.walk-test.false))
+
+pub returns-in-Fails : goal.returns-in-Fails
+returns-in-Fails c =
+    let l = c.walk-test.true in
+    let hy = c.loop-y-test.true in
+    let hi = c.loop-i-test.true in
+    let hj = c.loop-j-test.true in
+    let hs = c.loop-s-test.true in
+    let b = box-is _ l c.family_at-f.ensures c.box_of-b.ensures.0 in
+    let broken = outcome-fails _ c.test_row.ensures c.in-Fails.is in
+    answered _ _ _ c.requires.0.counts (stopped c.walk.invariant (family-below _ l) b c.loop-y.invariant hy c.loop-i.invariant hi c.loop-j.invariant hj c.loop-s.invariant hs broken)

@@ -1,0 +1,49 @@
+use mathlib.Core.Path.{refl, ap, ◌∙◌}
+use Prim.Native.Nat.{◌*◌, ◌-◌}
+use native.Mathlib.Omega.{arith}
+use Rattle.sums.specs.Index.{index}
+use Rattle.model.specs.declared.Family.{Family}
+use Rattle.model.specs.Data.{read}
+use Rattle.model.specs.Families.{row_boxes, family_count}
+use Rattle.model.specs.Tests.{row_fault}
+use Rattle.tables.specs.Layout.{plan_entry}
+use Rattle.tables.proofs.Laws.{small}
+use Rattle.tables.proofs.Steps.{Going, Walked, of_second, of_first, of_year, year_members, none, more, turn, walked_none, walked_more, walked_all}
+use Rattle.tables.proofs.Steps.{member-number, member_below, stopped, outcome-fine, outcome-fails}
+use Rattle.parts.specs.Years.{gen_kind, reserve_kind, charge_kind, level_kind}
+use Rattle.parts.proofs.Parts.{places-are, part-asked}
+use Rattle.rows.proofs.Readiness.{ready}
+use Rattle.row_tests.proofs.Steps.{box-is, inside_is, year-below, family-below, families-end, rows_fit, answered}
+use borrow.Author.Rules.{rules}
+use Rattle.row_tests.proofs.test_rows.Given as goal
+
+-- Each loop's invariant says what its own level has passed, from the row where it began; a measure is the turns that are left.
+abbrev pub invariant-loop-s : goal.invariant-loop-s
+invariant-loop-s l = Going (λ s. row_fault (read l.«data») l.scale (plan_entry l.c l.plan) (index l.k l.y l.i l.j s)) l.b.slices 1 l.initial.row l.s l.row l.answer
+
+abbrev pub decreases-loop-s : goal.decreases-loop-s
+decreases-loop-s l = l.b.slices - l.s
+
+abbrev pub invariant-loop-j : goal.invariant-loop-j
+invariant-loop-j l = Going (λ j. of_second (row_fault (read l.«data») l.scale (plan_entry l.c l.plan)) l.b l.k l.y l.i j) l.b.seconds l.b.slices l.initial.row l.j l.row l.answer
+
+abbrev pub decreases-loop-j : goal.decreases-loop-j
+decreases-loop-j l = l.b.seconds - l.j
+
+abbrev pub invariant-loop-i : goal.invariant-loop-i
+invariant-loop-i l = Going (λ i. of_first (row_fault (read l.«data») l.scale (plan_entry l.c l.plan)) l.b l.k l.y i) l.b.firsts (l.b.seconds * l.b.slices) l.initial.row l.i l.row l.answer
+
+abbrev pub decreases-loop-i : goal.decreases-loop-i
+decreases-loop-i l = l.b.firsts - l.i
+
+abbrev pub invariant-loop-y : goal.invariant-loop-y
+invariant-loop-y l = Going (λ y. of_year (row_fault (read l.«data») l.scale (plan_entry l.c l.plan)) l.b l.k y) l.b.years (year_members l.b) l.initial.row l.y l.row l.answer
+
+abbrev pub decreases-loop-y : goal.decreases-loop-y
+decreases-loop-y l = l.b.years - l.y
+
+abbrev pub invariant-walk : goal.invariant-walk
+invariant-walk l = Walked (row_fault (read l.«data») l.scale (plan_entry l.c l.plan)) (row_boxes l.c) l.k l.row l.answer
+
+abbrev pub decreases-walk : goal.decreases-walk
+decreases-walk l = family_count - l.k

@@ -1,0 +1,15 @@
+use mathlib.Core.Path.{refl, ap, ◌∙◌}
+use native.Mathlib.Nat.{zero-add}
+use Rattle.capped.specs.Cap.{cap}
+use Rattle.row_sums.specs.Ready.{sides_of}
+use Rattle.row_sums.proofs.Laws.{plain, two-sums, plus-if-is, product_is, part-value}
+use borrow.Author.Rules.{rules}
+use Rattle.storage_rows.proofs.charge_limit.Goals as goal
+
+pub returns : goal.returns
+unfolding sides_of
+returns c N =
+    let p = c.requires in
+    let allowed = plus-if-is c.is_battery.result 0 1 c.add_product_if.ensures c.zero.ensures c.planned_by_year_plant-limit.ensures.0 ∙ ap cap (zero-add _) in
+    rw (← c.is_battery.ensures)
+    (plain N _ _ (two-sums _ _ allowed (product_is c.product.ensures refl (part-value p.0.1.1 p.1.1.0 p.1.1.1 c.part_at.ensures.0))))

@@ -1,0 +1,6 @@
+use Rattle.writer.proofs.Laws.{said_same}
+use borrow.Author.Rules.{rules}
+use Rattle.writer.proofs.say_name.Goals as goal
+
+pub returns : goal.returns
+returns c = said_same c.name_part-part.ensures.held c.say.ensures

@@ -1,0 +1,14 @@
+use mathlib.Core.Path.{refl, ◌∙◌}
+use Rattle.constants.specs.Constants.{constant_of}
+use Rattle.row_sums.specs.Ready.{sides_of}
+use Rattle.row_sums.proofs.Laws.{constant, plus-is}
+use borrow.Author.Rules.{rules}
+use Rattle.zone_rows.proofs.firm.Goals as goal
+
+pub returns : goal.returns
+unfolding sides_of constant_of
+returns c =
+    let n = c.requires.0.0.counts in
+    rw n
+    (constant _ _ _ c.with_constant.ensures (rw n at c.firm_constant.ensures)
+    (plus-is _ c.add_product-above.ensures (c.credit_sum-credit.ensures ∙ rw c.long.ensures) refl c.planned_by_year_zone.ensures.0) c.zero.ensures)

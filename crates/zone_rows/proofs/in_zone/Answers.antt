@@ -1,0 +1,15 @@
+use mathlib.Core.Path.{refl}
+use Prim.Native.Nat.{◌*◌}
+use lib.Dec.{eqb}
+use Rattle.sums.specs.Sum.{on}
+use Rattle.model.specs.Data.{read, zone}
+use Rattle.row_sums.proofs.Laws.{plus-is, join_is}
+use Rattle.zone_rows.proofs.Laws.{part-sum}
+use borrow.Author.Rules.{rules}
+use Rattle.zone_rows.proofs.in_zone.Goals as goal
+
+pub returns : goal.returns
+returns c k m part links =
+    let D = read c.args.«data».now in
+    let plants = part-sum part c.requires.1 (λ z g v. on (eqb (zone D g) z) (1000 * v)) c.zone_sum-plants.ensures c.long.ensures in
+    plus-is _ c.add_product.ensures (join_is _ _ c.join.ensures plants links) refl c.planned_by_zone_slice.ensures.0
