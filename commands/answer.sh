@@ -4,6 +4,7 @@
 readonly ACCEPTED=0 REFUSED=1 NO_ANSWER=2
 
 folder=$(dirname "$(readlink -f "${BASH_SOURCE[0]}")")/..
+. "$folder/commands/sources.sh"
 
 usage_of() {
   cat <<EOF
@@ -26,15 +27,15 @@ no_answer() {
 }
 
 # Why the program cannot be used as it is: it is missing, or a source is newer. Nothing where it can.
-# Every crate counts, since rt itself finds out whether the program stands on it, and folders count, since a file taken away renews the time of its folder alone. No build reads a must-fail edit.
 reason_to_build() {
-  local program=$1 shown=${1#"$folder/"} newer
-  [ -x "$program" ] || { echo "$shown is missing"; return; }
-  newer=$(find "$folder/crates.txt" "$folder/crates" -name must-fail -prune -o -newer "$program" -print -quit) || return
-  [ -z "$newer" ] || echo "${newer#"$folder/"} is newer than $shown"
+  local shown=${1#"$folder/"} newer
+  cd "$folder" || return
+  [ -x "$shown" ] || { echo "$shown is missing"; return; }
+  newer=$(newer_source "$shown") || return
+  [ -z "$newer" ] || echo "$newer is newer than $shown"
 }
 
-# Ends the command after a build that failed. rt runs what it has built, and leaves it where that run fails: the program is made older than every source, so that it does not answer the next call.
+# Ends the command after a build that failed: the program is made older than every source, so that it does not answer the next call.
 build_failed() {
   local name=$1 program=$2
   [ ! -e "$program" ] || touch -d @0 "$program"
@@ -50,9 +51,8 @@ build() {
   command -v rt > /dev/null || no_answer "$name" "$reason, and rt is missing: the Rattle toolchain, which proves the program and builds it. README.md, \"What you need\", says what to do"
   echo "$name: $reason: the program is proved and built first, which can take some minutes" >&2
   began=$EPOCHREALTIME
-  (cd "$folder" && rt check "$name") < /dev/null >&2 || build_failed "$name" "$program"
-  [ -x "$program" ] || no_answer "$name" "the program could not be built: rt left no $program. Remove target/ and call again"
-  # rt leaves a program as it is where its sources have a new time and no new content. The start of the build is the time to set: what was edited since is newer.
+  "$folder/commands/build" "$name" < /dev/null >&2 || build_failed "$name" "$program"
+  # The start of the build is the time to set: what was edited since is newer.
   touch -d "@$began" "$program"
 }
 

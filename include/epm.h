@@ -7,8 +7,8 @@
  * a solver's figures. The README says what the answers mean to a planner.
  *
  * The code behind these calls is written in Rattle, a language in which each
- * function is proved to meet its contract. `rt staticlib epm_c` proves it and
- * writes target/staticlib/libepm_c.a, for x86-64 Linux. To link it:
+ * function is proved to meet its contract. `commands/build epm_c` proves it
+ * and writes target/staticlib/libepm_c.a, for x86-64-v2 Linux. To link it:
  *
  *     cc -I include program.c target/staticlib/libepm_c.a
  *

@@ -1,4 +1,4 @@
-//! Links the proved calls: `rt staticlib epm_c` writes the library.
+//! Links the proved calls: `commands/build epm_c` writes the library.
 
 use std::path::Path;
 
@@ -8,7 +8,7 @@ fn main() {
     println!("cargo:rerun-if-changed={}", library.display());
     assert!(
         library.exists(),
-        "{} is missing: run `rt staticlib epm_c` first, or ./test, which does",
+        "{} is missing: run `commands/build epm_c` first, or ./test, which does",
         library.display()
     );
     println!("cargo:rustc-link-search=native={}", folder.display());

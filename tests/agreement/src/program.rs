@@ -23,7 +23,7 @@ use std::path::Path;
 use std::process::{Command, Output, Stdio};
 use std::thread;
 
-/// What `rt check certify explain` and `rt ci` leave.
+/// What `commands/build certify explain` and ./test leave.
 const PROGRAMS: &str = concat!(env!("CARGO_MANIFEST_DIR"), "/../../target/bin");
 
 /// The bytes of standard input that a program keeps (`crates/standard_input`).

@@ -1,9 +1,8 @@
-use Prim.Native.Nat.{◌≤◌}
-use borrow.Author.Rules.{rules}
+use Rattle.std.proofs.Common.{◌≤◌}
 use Rattle.standard_input.proofs.drop_rest.Given as goal
 
 abbrev pub invariant-loop-left : goal.invariant-loop-left
-invariant-loop-left l = l.left ≤ l.turns
+invariant-loop-left g l = l.left ≤ l.turns
 
 abbrev pub decreases-loop-left : goal.decreases-loop-left
-decreases-loop-left l = l.left
+decreases-loop-left g l = l.left

@@ -1,13 +1,8 @@
-use native.Mathlib.Omega.{arith}
-use Rattle.standard_input.proofs.Laws.{total-further}
-use mathlib.Core.Path.{◌≡◌}
-use Prim.Native.Nat.{◌≤◌, ◌-◌}
-use lib.ListN.{length}
-use borrow.Author.Rules.{rules}
+use Rattle.std.proofs.Common.{length, ◌-◌, ◌≤◌}
 use Rattle.standard_input.proofs.read_input.Given as goal
 
 abbrev pub invariant-loop-done : goal.invariant-loop-done
-invariant-loop-done l = (l.done ≤ length l.input) × (length l.input ≡ length l.initial.input)
+invariant-loop-done g l = l.done ≤ length l.input
 
 abbrev pub decreases-loop-done : goal.decreases-loop-done
-decreases-loop-done l = length l.input - l.done
+decreases-loop-done g l = length l.initial.input - l.done

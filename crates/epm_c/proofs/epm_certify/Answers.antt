@@ -1,0 +1,18 @@
+use native.Mathlib.Omega.{arith}
+use mathlib.Core.Path.{refl, ◌∙◌}
+use borrow.Author.Tests.{lt-ltb}
+use Rattle.epm_c.specs.Exports.{status, written}
+use Rattle.epm_c.proofs.Laws.{answered, out-binds}
+use Rattle.epm_c.proofs.epm_certify.Goals as goal
+
+pub returns-then-out-lt2 : goal.returns-then-out-lt2
+unfolding status written
+returns-then-out-lt2 c = rw (lt-ltb _ _ c.if-out-lt2.true) (refl, (refl, λ z. absurd (omega arith)))
+
+pub returns : goal.returns
+returns c =
+    let a = c.args in
+    let room = c.if-out-lt2.false in
+    let code = c.certificate_code.ensures ∙ c.certify.ensures.0 in
+    let two = answered a.out.now room code c.put.ensures in
+    (two.0, (two.1, out-binds a.data.now a.scale a.plan.now a.multipliers.now a.out.now room code c.put.ensures))
