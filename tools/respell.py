@@ -13,7 +13,7 @@ import sys
 SPECIAL = {"fixedOM": "fixed_om", "resVoLL": "res_voll", "sresVoLL": "sres_voll", "mwPerLine": "mw_per_line", "sRes": "s_res", "getD-map-in": "get_or-map-in", "oneMore": "one_more_number"}
 # A lemma that port.py gave the name that a definition of ours has now: it keeps its dash. By file, since functions of src/ have this name too.
 KEPT_DASH = {"entry_place": "entry-place"}
-KEPT_DASH_IN = ("crates/tables/proofs/Laws.antt", "crates/entry_tests/proofs/Entries.antt")
+KEPT_DASH_IN = ("crates/tables/proofs/Laws.antt", "crates/entry_tests/proofs/Entries.antt", "crates/data_tests/proofs/Entries.antt")
 # An identifier of antt: no space, no bracket, no dot, no comma, no semicolon, no quotation mark and no backtick.
 WORD = re.compile(r"[^\s(){}\[\].,;:`\"«»⟦⟧=|@/]+")
 DECLARED = re.compile(r"^\s*(?:abbrev pub |abbrev |pub |unfoldable pub |unfoldable )?([^\s:(){}.,;`\"]+) :(?:\s|$)")
