@@ -1,5 +1,4 @@
 use Rattle.answer_line.proofs.Laws.{line-issued, line-withheld}
-use borrow.Author.Rules.{rules}
 use Rattle.answer_line.proofs.answer_line.Goals as goal
 
 pub returns-in-Issued : goal.returns-in-Issued

@@ -1,7 +1,6 @@
 use native.Mathlib.Omega.{arith}
 use Rattle.answer_line.specs.Line.{line_with}
 use Rattle.answer_line.proofs.Laws.{decimal-length, put-joined}
-use borrow.Author.Rules.{rules}
 use Rattle.answer_line.proofs.put_text.Goals as goal
 
 pub put_decimal-after_first-requires : goal.put_decimal-after_first-requires

@@ -1,5 +1,4 @@
 use Rattle.boards.proofs.Laws.{kept-after, put-by-test}
-use borrow.Author.Rules.{rules}
 use Rattle.boards.proofs.put_after.Goals as goal
 
 pub put_year-requires : goal.put_year-requires

@@ -4,12 +4,10 @@ use native.Mathlib.Omega.{arith}
 use lib.ListN.{length}
 use Rattle.model.specs.Data.{read}
 use Rattle.model.specs.Calls.{replaced}
-use borrow.Author.Tests.{not-true, not-false}
 use Rattle.tables.proofs.Laws.{small}
 use Rattle.data_tests.proofs.Passed.{passed-long, sound-head, counts-sound, counts-read, plan-columns}
 use Rattle.parts.proofs.Parts.{part-asked, part-is}
 use Rattle.boards.proofs.Laws.{board-tested, board-room, board-refused, board-written, outputs-are, places-are, years-are, some-places}
-use borrow.Author.Rules.{rules}
 use Rattle.boards.proofs.put_year.Goals as goal
 
 pub counts_of-c-requires : goal.counts_of-c-requires

@@ -1,7 +1,6 @@
 use native.Mathlib.Omega.{arith}
 use Rattle.model.specs.Standing.{built_in⁻}
 use Rattle.column_terms.proofs.Laws.{none-priced, take-priced, priced-as}
-use borrow.Author.Rules.{rules}
 use Rattle.cable_columns.proofs.built_column.Goals as goal
 
 pub returns : goal.returns

@@ -2,7 +2,6 @@ use borrow.Author.Tests.{ltb-true}
 use native.Mathlib.Omega.{arith}
 use Rattle.model.specs.Standing.{total_in⁺, total_in⁻}
 use Rattle.column_terms.proofs.Laws.{row_at, add-priced, add-priced-if, take-priced-if, priced-as}
-use borrow.Author.Rules.{rules}
 use Rattle.cable_columns.proofs.total_column.Goals as goal
 
 pub take_row_if-q-requires : goal.take_row_if-q-requires

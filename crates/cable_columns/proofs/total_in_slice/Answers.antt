@@ -1,7 +1,6 @@
 use native.Mathlib.Omega.{arith}
 use Rattle.model.specs.Standing.{total_in_slice⁺}
 use Rattle.column_terms.proofs.Laws.{none-priced, add-priced, add-priced-if, priced-as}
-use borrow.Author.Rules.{rules}
 use Rattle.cable_columns.proofs.total_in_slice.Goals as goal
 
 pub returns : goal.returns

@@ -1,14 +1,9 @@
-use mathlib.Core.Path.{sym, ◌∙◌}
 use Prim.Native.Nat.{◌-◌}
-use native.Mathlib.Omega.{arith}
 use Rattle.sums.specs.Linear.{nothing}
-use Rattle.sums.proofs.Sums.{sum-const-zero}
 use Rattle.model.specs.Data.{read}
 use Rattle.model.specs.Counts.{slices_of}
 use Rattle.model.specs.Standing.{total_in_slice⁺}
-use Rattle.column_terms.proofs.Laws.{Walked, none-priced, priced-as, walked_none, walked_more, walked_all}
-use Rattle.cable_columns.proofs.Groups.{no_power}
-use borrow.Author.Rules.{rules}
+use Rattle.column_terms.proofs.Laws.{Walked}
 use Rattle.cable_columns.proofs.total_in_slices.Given as goal
 
 abbrev pub invariant-loop-s : goal.invariant-loop-s

@@ -1,7 +1,6 @@
 use mathlib.Core.Path.{refl}
 use Rattle.row_sums.specs.Ready.{sides_of}
 use Rattle.row_sums.proofs.Laws.{product_is, plus-is, two-sums, plain}
-use borrow.Author.Rules.{rules}
 use Rattle.cable_rows.proofs.line_balance.Goals as goal
 
 pub returns : goal.returns

@@ -2,7 +2,6 @@ use mathlib.Core.Path.{refl}
 use borrow.Author.Tests.{le-ltb, lt-ltb}
 use Rattle.row_sums.specs.Ready.{sides_of}
 use Rattle.row_sums.proofs.Laws.{product_is, two-sums, plain}
-use borrow.Author.Rules.{rules}
 use Rattle.cable_rows.proofs.lines_both_ways.Goals as goal
 
 pub returns-then-z-w : goal.returns-then-z-w

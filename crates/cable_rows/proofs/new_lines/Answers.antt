@@ -1,7 +1,6 @@
 use Rattle.constants.specs.Constants.{constant_of}
 use Rattle.row_sums.specs.Ready.{sides_of}
 use Rattle.row_sums.proofs.Laws.{limit}
-use borrow.Author.Rules.{rules}
 use Rattle.cable_rows.proofs.new_lines.Goals as goal
 
 pub returns : goal.returns

@@ -1,7 +1,6 @@
 use native.Mathlib.Omega.{arith}
 use Rattle.model.specs.Standing.{build_in⁻}
 use Rattle.column_terms.proofs.Laws.{row_at, none-priced, take-priced-if, priced-as}
-use borrow.Author.Rules.{rules}
 use Rattle.capacity_columns.proofs.build_column.Goals as goal
 
 pub take_row_if-requires : goal.take_row_if-requires

@@ -1,7 +1,6 @@
 use Rattle.capacity_columns.proofs.Groups.{cap-together⁺, cap-together⁻}
 use Rattle.model.specs.Data.{read}
 use Rattle.column_terms.proofs.Laws.{join-priced, priced-as}
-use borrow.Author.Rules.{rules}
 use Rattle.capacity_columns.proofs.cap_column.Goals as goal
 
 pub returns : goal.returns

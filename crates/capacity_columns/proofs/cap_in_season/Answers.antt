@@ -1,7 +1,6 @@
 use native.Mathlib.Omega.{arith}
 use Rattle.capacity_columns.specs.Groups.{cap_in_season⁺}
 use Rattle.column_terms.proofs.Laws.{none-priced, add-priced, priced-as}
-use borrow.Author.Rules.{rules}
 use Rattle.capacity_columns.proofs.cap_in_season.Goals as goal
 
 pub returns : goal.returns

@@ -1,9 +1,5 @@
-use borrow.Author.Rules.{rules}
 use Prim.Native.Nat.{◌-◌}
-use Rattle.sums.specs.Linear.{nothing}
-use Rattle.model.specs.Data.{read}
-use Rattle.capacity_columns.specs.Groups.{cap_in_season⁺}
-use Rattle.column_terms.proofs.Laws.{Walked, walked_none, walked_more, walked_all}
+use Rattle.column_terms.proofs.Laws.{walked_none, walked_more, walked_all}
 use Rattle.capacity_columns.proofs.cap_in_seasons.Goals as goal
 
 pub loop-q-init : goal.loop-q-init

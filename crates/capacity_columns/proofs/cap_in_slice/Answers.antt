@@ -4,7 +4,6 @@ use Rattle.model.specs.Standing.{cap_in_slice⁺}
 use Rattle.sums.proofs.Tests.{on_both}
 use Rattle.capacity_columns.specs.Groups.{rates_of, cap_in_slice⁻}
 use Rattle.column_terms.proofs.Laws.{plant-row, none-priced, add-priced, add-priced-if, take-priced-if, priced-as}
-use borrow.Author.Rules.{rules}
 use Rattle.capacity_columns.proofs.cap_in_slice.Goals as goal
 
 pub cap_in_ramps-r-requires : goal.cap_in_ramps-r-requires

@@ -1,11 +1,6 @@
-use borrow.Author.Rules.{rules}
 use Prim.Native.Nat.{◌-◌}
 use native.Mathlib.Omega.{arith}
-use Rattle.model.specs.Data.{read}
-use Rattle.model.specs.Counts.{slices_of}
-use Rattle.model.specs.Standing.{cap_in_slice⁺}
-use Rattle.capacity_columns.specs.Groups.{cap_in_slice⁻}
-use Rattle.column_terms.proofs.Laws.{Walked, walked_none, walked_more, walked_all}
+use Rattle.column_terms.proofs.Laws.{walked_none, walked_more, walked_all}
 use Rattle.capacity_columns.proofs.cap_in_slices.Goals as goal
 
 pub loop-s-init : goal.loop-s-init

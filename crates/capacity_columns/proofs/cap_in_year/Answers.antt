@@ -2,7 +2,6 @@ use borrow.Author.Tests.{ltb-true}
 use native.Mathlib.Omega.{arith}
 use Rattle.capacity_columns.specs.Groups.{cap_in_year⁺, cap_in_year⁻}
 use Rattle.column_terms.proofs.Laws.{row_at, none-priced, add-priced, take-priced-if, priced-as}
-use borrow.Author.Rules.{rules}
 use Rattle.capacity_columns.proofs.cap_in_year.Goals as goal
 
 pub take_row_if-r-requires : goal.take_row_if-r-requires

@@ -1,5 +1,4 @@
 use Rattle.capacity_columns.specs.Groups.{rates_of}
-use borrow.Author.Rules.{rules}
 use Rattle.capacity_columns.proofs.rates_of.Goals as goal
 
 pub returns : goal.returns

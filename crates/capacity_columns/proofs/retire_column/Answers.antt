@@ -3,7 +3,6 @@ use Rattle.model.specs.Data.{read, existing}
 use Rattle.model.specs.Standing.{retire_in⁺, retire_in⁻}
 use Rattle.column_terms.proofs.Laws.{none-priced, add-priced-if, take-priced-if, priced-as}
 use Rattle.capacity_columns.proofs.Groups.{not-later}
-use borrow.Author.Rules.{rules}
 use Rattle.capacity_columns.proofs.retire_column.Goals as goal
 
 pub returns : goal.returns

@@ -1,5 +1,4 @@
 use mathlib.Core.Path.{◌∙◌}
-use borrow.Author.Rules.{rules}
 use Rattle.capped.proofs.add_multiple.Goals as goal
 
 pub returns : goal.returns

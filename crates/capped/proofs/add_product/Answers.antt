@@ -1,6 +1,5 @@
 use mathlib.Core.Path.{◌∙◌}
 use Rattle.capped.proofs.Laws.{both-plus}
-use borrow.Author.Rules.{rules}
 use Rattle.capped.proofs.add_product.Goals as goal
 
 pub returns : goal.returns

@@ -1,6 +1,5 @@
 use mathlib.Core.Path.{◌∙◌}
 use Rattle.capped.proofs.Laws.{both-plus, times-cap}
-use borrow.Author.Rules.{rules}
 use Rattle.capped.proofs.add_product3.Goals as goal
 
 pub returns : goal.returns

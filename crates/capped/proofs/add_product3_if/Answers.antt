@@ -1,5 +1,4 @@
 use mathlib.Core.Path.{◌∙◌}
-use borrow.Author.Rules.{rules}
 use Rattle.capped.proofs.add_product3_if.Goals as goal
 
 pub returns-then-on : goal.returns-then-on

@@ -1,5 +1,4 @@
 use Rattle.capped.specs.Cap.{kept_as, limit}
-use borrow.Author.Rules.{rules}
 use Rattle.capped.proofs.keep.Goals as goal
 
 pub returns-in-Exact : goal.returns-in-Exact

@@ -3,7 +3,6 @@ use lib.Dec.{leb}
 use Prim.Native.Nat.{ℕ}
 use Rattle.capped.specs.Cap.{straight}
 use Rattle.capped.proofs.Laws.{small-lengths}
-use borrow.Author.Rules.{rules}
 use borrow.Author.Tests.{le-leb}
 use Rattle.capped.proofs.lengths_fit.Goals as goal
 

@@ -3,7 +3,6 @@ use native.Mathlib.Omega.{arith}
 use Rattle.lengths.proofs.Laws.{product-below, product-beyond}
 use Rattle.capped.specs.Cap.{limit}
 use Rattle.capped.proofs.Laws.{cap-high}
-use borrow.Author.Rules.{rules}
 use Rattle.capped.proofs.long_product.Goals as goal
 
 pub overflow_mul-a : goal.overflow_mul-a

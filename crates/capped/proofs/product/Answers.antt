@@ -4,7 +4,6 @@ use native.Mathlib.Omega.{arith}
 use Rattle.lengths.proofs.Laws.{product-fits}
 use Rattle.capped.specs.Cap.{straight}
 use Rattle.capped.proofs.Laws.{cap-low, limit-least}
-use borrow.Author.Rules.{rules}
 use borrow.Author.Tests.{leb-true}
 use Rattle.capped.proofs.product.Goals as goal
 

@@ -2,7 +2,6 @@ use mathlib.Core.Path.{◌∙◌, sym}
 use native.Mathlib.Omega.{arith}
 use Rattle.capped.specs.Cap.{times}
 use Rattle.capped.proofs.Laws.{zero-scale, times-over}
-use borrow.Author.Rules.{rules}
 use Rattle.capped.proofs.scale.Goals as goal
 
 pub returns-then-n-eq0 : goal.returns-then-n-eq0

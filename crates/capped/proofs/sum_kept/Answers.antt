@@ -1,5 +1,4 @@
 use Rattle.capped.specs.Cap.{kept_sum}
-use borrow.Author.Rules.{rules}
 use Rattle.capped.proofs.sum_kept.Goals as goal
 
 pub returns : goal.returns

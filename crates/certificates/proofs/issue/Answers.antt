@@ -3,7 +3,6 @@ use Rattle.model.specs.Data.{read}
 use Rattle.data_tests.proofs.Passed.{passed-long, sound-head, sound-entries, passed-tables, counts-sound, counts-read}
 use Rattle.duals.proofs.Shapes.{shaped, shape-counts, rows-from}
 use Rattle.certificates.proofs.Laws.{multipliers-refused, multipliers-whole, columns-refused, columns-passed}
-use borrow.Author.Rules.{rules}
 use Rattle.certificates.proofs.issue.Goals as goal
 
 pub counts_of-requires : goal.counts_of-requires

@@ -1,6 +1,5 @@
 use mathlib.Core.Path.{◌∙◌}
 use Rattle.model.specs.Calls.{answer_code}
-use borrow.Author.Rules.{rules}
 use Rattle.codes.proofs.answer_code.Goals as goal
 
 pub returns-in-Accepted : goal.returns-in-Accepted

@@ -1,6 +1,5 @@
 use mathlib.Core.Path.{◌∙◌}
 use Rattle.model.specs.Calls.{certificate_code}
-use borrow.Author.Rules.{rules}
 use Rattle.codes.proofs.certificate_code.Goals as goal
 
 pub returns-in-Issued : goal.returns-in-Issued

@@ -1,6 +1,5 @@
 use mathlib.Core.Path.{◌∙◌}
 use Rattle.model.specs.Calls.{code_of}
-use borrow.Author.Rules.{rules}
 use Rattle.codes.proofs.code_of.Goals as goal
 
 pub returns-in-Shape : goal.returns-in-Shape

@@ -1,6 +1,5 @@
 use Rattle.writer.proofs.Laws.{said-joined}
 use Rattle.sentences.specs.Sentences.{priced_words}
-use borrow.Author.Rules.{rules}
 use Rattle.column_words.proofs.say_priced.Goals as goal
 
 pub returns : goal.returns

@@ -1,7 +1,6 @@
 use native.Mathlib.Omega.{arith}
 use Rattle.capped.specs.Cap.{limit}
 use Rattle.compared.proofs.Laws.{high-subtract-a, high-subtract-b, lt-subtract, le-subtract}
-use borrow.Author.Rules.{rules}
 use Rattle.compared.proofs.subtract.Goals as goal
 
 pub returns-then-a-gt-LIMIT : goal.returns-then-a-gt-LIMIT

@@ -1,5 +1,4 @@
 use Rattle.constants.specs.Constants.{netted_of}
-use borrow.Author.Rules.{rules}
 use Rattle.constants.proofs.netted.Goals as goal
 
 pub returns : goal.returns

@@ -1,4 +1,3 @@
-use borrow.Author.Rules.{rules}
 use Rattle.data_tests.proofs.counts_of.Goals as goal
 
 pub returns : goal.returns

@@ -1,4 +1,3 @@
-use borrow.Author.Rules.{rules}
 use Rattle.data_tests.proofs.is_vre_battery.Goals as goal
 
 pub returns-then-is_battery : goal.returns-then-is_battery

@@ -1,13 +1,7 @@
-use mathlib.Core.Path.{◌≡◌, refl, sym, ap, ◌∙◌}
+use mathlib.Core.Path.{◌≡◌}
 use Prim.Native.Nat.{◌≤◌, ◌-◌}
-use borrow.Author.Rules.{rules}
-use borrow.Author.Tests.{not-true, not-false}
-use native.Mathlib.Omega.{arith}
 use Rattle.sums.specs.Span.{upto, fine}
-use Rattle.sums.proofs.Spans.{upto_step, upto-stop}
-use Rattle.model.specs.Tests.{unless, count_fault, counts_fault}
-use Rattle.tables.specs.Layout.{outcome}
-use Rattle.data_tests.proofs.Passed.{count-tested}
+use Rattle.model.specs.Tests.{count_fault}
 use Rattle.data_tests.proofs.test_counts.Given as goal
 
 abbrev pub invariant-loop-i : goal.invariant-loop-i

@@ -1,5 +1,4 @@
 use mathlib.Core.Path.{sym, ◌∙◌}
-use borrow.Author.Rules.{rules}
 use Rattle.data_tests.proofs.Passed.{outcome-fine, stopped, went_on, data-faults, passed-long, passed-counts, passed-tables}
 use Rattle.data_tests.proofs.test_data.Goals as goal
 

@@ -1,7 +1,6 @@
 use native.Mathlib.Omega.{arith}
 use Rattle.model.specs.Data.{table_count}
 use Rattle.data_tests.proofs.Passed.{counted, whole_is, length-wrong, length-right}
-use borrow.Author.Rules.{rules}
 use Rattle.data_tests.proofs.test_length.Goals as goal
 
 pub table_starts-tables_at-requires : goal.table_starts-tables_at-requires

@@ -1,11 +1,10 @@
-use mathlib.Core.Path.{◌≡◌, refl, sym, ap, ◌∙◌}
-use Prim.Native.Nat.{◌≤◌, ◌-◌}
+use mathlib.Core.Path.{refl, sym, ap, ◌∙◌}
+use Prim.Native.Nat.{◌-◌}
 use borrow.Author.Rules.{rules}
 use native.Mathlib.Omega.{arith}
-use Rattle.sums.specs.Span.{upto, fine}
+use Rattle.sums.specs.Span.{upto}
 use Rattle.sums.proofs.Spans.{upto_step, upto-stop}
-use Rattle.model.specs.Data.{read}
-use Rattle.model.specs.Tests.{plant_storage_fault, storage_fault}
+use Rattle.model.specs.Tests.{storage_fault}
 use Rattle.tables.specs.Layout.{outcome}
 use Rattle.model.proofs.Batteries.{plant-refused, plant-passed}
 use Rattle.data_tests.proofs.Passed.{all-passed}

@@ -1,4 +1,3 @@
-use borrow.Author.Rules.{rules}
 use Rattle.data_tests.proofs.Passed.{passes, stopped, went_on}
 use Rattle.data_tests.proofs.test_tables.Goals as goal
 

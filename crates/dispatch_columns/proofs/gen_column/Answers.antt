@@ -3,7 +3,6 @@ use Rattle.model.specs.Data.{read}
 use Rattle.column_terms.proofs.Laws.{plant-row, plant-ramp, add-priced-if, join-priced, priced-as}
 use mathlib.Core.Path.{refl}
 use native.Mathlib.Omega.{arith}
-use borrow.Author.Rules.{rules}
 use Rattle.dispatch_columns.proofs.gen_column.Goals as goal
 
 pub in_ramps-ramps-requires : goal.in_ramps-ramps-requires

@@ -1,7 +1,6 @@
 use native.Mathlib.Omega.{arith}
 use Rattle.dispatch_columns.specs.Groups.{gen_in_load⁺, gen_in_load⁻}
 use Rattle.column_terms.proofs.Laws.{row_at, none-priced, take-priced, add-priced-if, take-priced-if, priced-as}
-use borrow.Author.Rules.{rules}
 use Rattle.dispatch_columns.proofs.gen_in_load.Goals as goal
 
 pub take_row-t-requires : goal.take_row-t-requires

@@ -1,7 +1,6 @@
 use native.Mathlib.Omega.{arith}
 use Rattle.dispatch_columns.specs.Groups.{gen_in_zone⁺, gen_in_zone⁻}
 use Rattle.column_terms.proofs.Laws.{row_at, none-priced, add-priced, take-priced, take-priced-if, priced-as}
-use borrow.Author.Rules.{rules}
 use Rattle.dispatch_columns.proofs.gen_in_zone.Goals as goal
 
 pub is_vre-requires : goal.is_vre-requires

@@ -1,7 +1,6 @@
 use native.Mathlib.Omega.{arith}
 use Rattle.model.specs.Standing.{reserve_in⁺, reserve_in⁻}
 use Rattle.column_terms.proofs.Laws.{none-priced, add-priced, take-priced, priced-as}
-use borrow.Author.Rules.{rules}
 use Rattle.dispatch_columns.proofs.reserve_column.Goals as goal
 
 pub returns : goal.returns

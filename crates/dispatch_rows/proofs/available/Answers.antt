@@ -5,7 +5,6 @@ use Rattle.energy.proofs.Laws.{season-is, available-energy}
 use Rattle.row_sums.specs.Ready.{sides_of}
 use Rattle.row_sums.proofs.Laws.{two-sums, plain}
 use Rattle.dispatch_rows.proofs.Laws.{product3-is}
-use borrow.Author.Rules.{rules}
 use Rattle.dispatch_rows.proofs.available.Goals as goal
 
 pub returns : goal.returns

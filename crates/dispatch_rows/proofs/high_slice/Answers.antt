@@ -1,4 +1,3 @@
-use borrow.Author.Rules.{rules}
 use Rattle.dispatch_rows.proofs.high_slice.Goals as goal
 
 pub returns-then-falls : goal.returns-then-falls

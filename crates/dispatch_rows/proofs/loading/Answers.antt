@@ -3,7 +3,6 @@ use Prim.Native.Nat.{ℕ, ◌+◌}
 use Rattle.row_sums.specs.Ready.{sides_of}
 use Rattle.row_sums.proofs.Laws.{product_is, join_is, two-sums, plain}
 use Rattle.dispatch_rows.proofs.Laws.{part-entry}
-use borrow.Author.Rules.{rules}
 use Rattle.dispatch_rows.proofs.loading.Goals as goal
 
 pub returns : goal.returns

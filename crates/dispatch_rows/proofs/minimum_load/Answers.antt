@@ -3,7 +3,6 @@ use Rattle.constants.proofs.Laws.{flag-on, flag_off}
 use Rattle.row_sums.specs.Ready.{sides_of}
 use Rattle.row_sums.proofs.Laws.{product_is, two-sums, plain}
 use Rattle.dispatch_rows.proofs.Laws.{part-entry}
-use borrow.Author.Rules.{rules}
 use Rattle.dispatch_rows.proofs.minimum_load.Goals as goal
 
 pub returns-then-by_day-ne1 : goal.returns-then-by_day-ne1

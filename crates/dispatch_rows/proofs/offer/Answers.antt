@@ -2,7 +2,6 @@ use mathlib.Core.Path.{refl}
 use Rattle.row_sums.specs.Ready.{sides_of}
 use Rattle.row_sums.proofs.Laws.{product_is, two-sums, plain}
 use Rattle.dispatch_rows.proofs.Laws.{part-entry}
-use borrow.Author.Rules.{rules}
 use Rattle.dispatch_rows.proofs.offer.Goals as goal
 
 pub returns : goal.returns

@@ -1,9 +1,7 @@
 use mathlib.Core.Path.{refl}
-use borrow.Author.Tests.{not-true, not-false}
 use Rattle.row_sums.specs.Ready.{sides_of}
 use Rattle.row_sums.proofs.Laws.{product_is, two-sums, plain}
 use Rattle.dispatch_rows.proofs.Laws.{part-entry}
-use borrow.Author.Rules.{rules}
 use Rattle.dispatch_rows.proofs.profiled.Goals as goal
 
 pub returns-then-not-is_vre : goal.returns-then-not-is_vre

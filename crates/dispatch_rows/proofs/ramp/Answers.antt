@@ -2,7 +2,6 @@ use mathlib.Core.Path.{refl}
 use mathlib.Core.Bool.{not}
 use Rattle.row_sums.proofs.Laws.{product_is, join_is, two-sums, first-hour, later-hour, some-before}
 use Rattle.dispatch_rows.proofs.Laws.{part-entry, high-inside}
-use borrow.Author.Rules.{rules}
 use Rattle.dispatch_rows.proofs.ramp.Goals as goal
 
 pub returns-then-first_hour : goal.returns-then-first_hour

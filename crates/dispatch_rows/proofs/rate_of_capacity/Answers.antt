@@ -1,6 +1,5 @@
 use mathlib.Core.Path.{refl}
 use Rattle.row_sums.proofs.Laws.{product_is}
-use borrow.Author.Rules.{rules}
 use Rattle.dispatch_rows.proofs.rate_of_capacity.Goals as goal
 
 pub returns : goal.returns

@@ -1,4 +1,3 @@
-use borrow.Author.Rules.{rules}
 use borrow.Author.Tests.{lt-leb, le-leb}
 use Rattle.model.specs.Tests.{most_multiplier}
 use Rattle.duals.proofs.in_range.Goals as goal

@@ -1,11 +1,11 @@
 use mathlib.Core.Path.{◌≡◌, refl}
-use Prim.Native.Nat.{ℕ, ◌+◌, ◌*◌, ◌-◌, ◌≤◌, ◌<◌}
+use Prim.Native.Nat.{◌-◌}
 use native.Mathlib.Omega.{arith}
-use lib.ListN.{length, get_or, length-set}
+use lib.ListN.{length-set}
 use borrow.Author.Rules.{rules}
 use Rattle.sums.specs.Sum.{sum}
 use Rattle.sums.specs.Index.{start}
-use Rattle.model.specs.Families.{row_boxes, family_count}
+use Rattle.model.specs.Families.{row_boxes}
 use Rattle.tables.proofs.Laws.{stored}
 use Rattle.duals.proofs.Laws.{few-rows, start-next}
 use Rattle.duals.proofs.row_starts.Goals as goal

@@ -1,13 +1,8 @@
-use mathlib.Core.Path.{◌≡◌, refl}
+use mathlib.Core.Path.{◌≡◌}
 use Prim.Native.Nat.{ℕ, ◌+◌, ◌*◌, ◌-◌, ◌≤◌, ◌<◌}
-use native.Mathlib.Omega.{arith}
-use lib.ListN.{length, get_or, length-set}
-use borrow.Author.Rules.{rules}
-use Rattle.sums.specs.Sum.{sum}
+use lib.ListN.{length, get_or}
 use Rattle.sums.specs.Index.{start}
 use Rattle.model.specs.Families.{row_boxes, family_count}
-use Rattle.tables.proofs.Laws.{stored}
-use Rattle.duals.proofs.Laws.{few-rows, start-next}
 use Rattle.duals.proofs.row_starts.Given as goal
 
 abbrev pub invariant-loop-k : goal.invariant-loop-k

@@ -1,6 +1,5 @@
 use mathlib.Core.Path.{◌∙◌}
 use native.Mathlib.Omega.{arith}
-use borrow.Author.Rules.{rules}
 use Rattle.model.specs.Families.{family_count}
 use Rattle.duals.proofs.Laws.{rows_end, count-wrong, count-right}
 use Rattle.duals.proofs.test_multipliers.Goals as goal

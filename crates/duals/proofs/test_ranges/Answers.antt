@@ -1,17 +1,13 @@
 use mathlib.Core.Path.{refl, sym, ap, ◌∙◌}
-use Prim.Native.Nat.{◌+◌, ◌-◌, ◌<◌}
+use Prim.Native.Nat.{◌-◌, ◌<◌}
 use native.Mathlib.Omega.{arith}
-use borrow.Author.Rules.{rules}
-use borrow.Author.Tests.{not-true, not-false}
-use lib.ListN.{length, get_or}
+use lib.ListN.{length}
 use Rattle.sums.specs.Sum.{sum}
-use Rattle.sums.specs.Index.{start}
 use Rattle.sums.proofs.Spans.{upto-stop}
-use Rattle.model.specs.Families.{row_boxes, family_count}
 use Rattle.model.specs.Tests.{unless}
 use Rattle.tables.specs.Layout.{outcome}
-use Rattle.tables.proofs.Walk.{Reached, begun, turned, ended}
-use Rattle.duals.proofs.Laws.{row_fault, family_fault, all-multipliers, start-next, family-row, family-faults, tested}
+use Rattle.tables.proofs.Walk.{begun, turned, ended}
+use Rattle.duals.proofs.Laws.{all-multipliers, start-next, family-row, family-faults, tested}
 use Rattle.duals.proofs.test_ranges.Goals as goal
 
 pub walk-init : goal.walk-init

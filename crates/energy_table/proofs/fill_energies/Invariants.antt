@@ -1,15 +1,10 @@
-use mathlib.Core.Path.{◌≡◌, refl}
+use mathlib.Core.Path.{◌≡◌}
 use mathlib.Core.List.{List}
 use Prim.Native.Nat.{ℕ, ◌+◌, ◌*◌, ◌-◌, ◌≤◌}
-use native.Mathlib.Omega.{arith}
-use borrow.Author.Rules.{rules}
 use Rattle.model.specs.declared.Counts.{Counts}
 use Rattle.model.specs.Data.{read}
 use Rattle.tables.specs.Layout.{plan_entry}
-use Rattle.tables.proofs.Laws.{small}
-use Rattle.parts.proofs.Parts.{places-are, part-asked, part-is}
-use Rattle.energy.proofs.Laws.{few-plants}
-use Rattle.energy_table.proofs.Laws.{season_energy, part-season, Filled, fill_none, fill_one, year-end, energies}
+use Rattle.energy_table.proofs.Laws.{season_energy, Filled}
 use Rattle.energy_table.proofs.fill_energies.Given as goal
 
 -- Each loop keeps the number of the next year, plant and season in `place`, and every number below it filled.

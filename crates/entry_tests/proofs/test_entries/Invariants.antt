@@ -1,17 +1,9 @@
-use mathlib.Core.Path.{refl, sym, ap, ◌∙◌}
-use Prim.Native.Nat.{◌+◌, ◌-◌, ◌<◌}
-use lib.ListN.{length}
-use native.Mathlib.Omega.{arith}
-use borrow.Author.Rules.{rules}
-use borrow.Author.Tests.{not-true, not-false}
+use Prim.Native.Nat.{◌+◌, ◌-◌}
 use Rattle.sums.specs.Index.{inside}
-use Rattle.sums.proofs.Spans.{upto-stop}
 use Rattle.model.specs.Data.{read, table_count}
-use Rattle.model.specs.Tests.{unless}
-use Rattle.tables.specs.Layout.{start_from, table_sets, outcome}
-use Rattle.tables.proofs.Laws.{start-zero}
-use Rattle.tables.proofs.Walk.{Reached, begun, turned, ended}
-use Rattle.entry_tests.proofs.Entries.{at_slice, at_second, at_first, at_year, table_fault, all-tables, next-table, box-faults, place-below, tested}
+use Rattle.tables.specs.Layout.{start_from, table_sets}
+use Rattle.tables.proofs.Walk.{Reached}
+use Rattle.entry_tests.proofs.Entries.{at_slice, at_second, at_first, at_year, table_fault}
 use Rattle.entry_tests.proofs.test_entries.Given as goal
 
 abbrev pub invariant-loop-s : goal.invariant-loop-s

@@ -1,5 +1,4 @@
 use Rattle.sentences.specs.Sentences.{figure_words}
-use borrow.Author.Rules.{rules}
 use Rattle.entry_words.proofs.say_figures.Goals as goal
 
 pub returns : goal.returns

@@ -1,6 +1,5 @@
 use Rattle.writer.proofs.Laws.{said-joined}
 use Rattle.sentences.specs.Sentences.{scale_words}
-use borrow.Author.Rules.{rules}
 use Rattle.entry_words.proofs.say_scale.Goals as goal
 
 pub returns : goal.returns

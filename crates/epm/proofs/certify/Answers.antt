@@ -1,6 +1,5 @@
 use mathlib.Core.Path.{sym, ◌∙◌}
 use Rattle.epm.proofs.Laws.{accepted-parts, accepted-cost, certify-refused, certify-accepted, certified}
-use borrow.Author.Rules.{rules}
 use Rattle.epm.proofs.certify.Goals as goal
 
 pub issue-requires : goal.issue-requires

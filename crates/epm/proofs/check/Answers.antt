@@ -3,7 +3,6 @@ use native.Mathlib.Omega.{arith}
 use Rattle.model.specs.Columns.{column_kind_count}
 use Rattle.data_tests.proofs.Passed.{passed-long, sound-head, passed-tables, counts-sound, counts-read, columns-end, plan-columns, passes}
 use Rattle.epm.proofs.Laws.{answered, data-refused, plan-refused, plan-passed, plan-whole}
-use borrow.Author.Rules.{rules}
 use Rattle.epm.proofs.check.Goals as goal
 
 pub returns-in-Fails : goal.returns-in-Fails

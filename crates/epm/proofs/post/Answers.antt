@@ -1,6 +1,5 @@
 use mathlib.Core.Path.{sym, ◌∙◌}
 use Rattle.epm.proofs.Laws.{answered, accepted-parts, post-after}
-use borrow.Author.Rules.{rules}
 use Rattle.epm.proofs.post.Goals as goal
 
 pub put_after-requires : goal.put_after-requires

@@ -1,6 +1,5 @@
 use Rattle.data_tests.proofs.Passed.{sound-entries}
 use Rattle.epm.proofs.Laws.{rows-refused, cost-told, cost-above}
-use borrow.Author.Rules.{rules}
 use Rattle.epm.proofs.price.Goals as goal
 
 pub test_rows-requires : goal.test_rows-requires

@@ -1,6 +1,5 @@
 use mathlib.Core.Path.{refl}
 use Rattle.exports.specs.Figures.{figures}
-use borrow.Author.Rules.{rules}
 use Rattle.exports.proofs.put.Goals as goal
 
 pub returns : goal.returns

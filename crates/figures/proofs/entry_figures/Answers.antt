@@ -3,7 +3,6 @@ use Rattle.model.specs.Data.{table_boxes}
 use Rattle.data_tests.proofs.Passed.{passed-long, passed-counts, passed-tables, counts-read}
 use Rattle.tables.proofs.Members.{entry-inside}
 use Rattle.figures.proofs.Laws.{counted-alike, entry_in, entry-told}
-use borrow.Author.Rules.{rules}
 use Rattle.figures.proofs.entry_figures.Goals as goal
 
 pub counts_of-c-requires : goal.counts_of-c-requires

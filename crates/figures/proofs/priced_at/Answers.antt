@@ -3,7 +3,6 @@ use Rattle.model.specs.Data.{read}
 use Rattle.column_prices.proofs.Laws.{column-price}
 use Rattle.tables.proofs.Members.{column-inside, year-inside}
 use Rattle.figures.proofs.Laws.{column-told}
-use borrow.Author.Rules.{rules}
 use Rattle.figures.proofs.priced_at.Goals as goal
 
 pub unit_price-unit-requires : goal.unit_price-unit-requires

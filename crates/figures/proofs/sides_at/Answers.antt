@@ -6,7 +6,6 @@ use Rattle.parts.specs.Years.{gen_kind, reserve_kind, charge_kind, level_kind}
 use Rattle.parts.proofs.Parts.{places-are}
 use Rattle.rows.proofs.Readiness.{ready}
 use Rattle.figures.proofs.Laws.{row-part}
-use borrow.Author.Rules.{rules}
 use Rattle.figures.proofs.sides_at.Goals as goal
 
 pub overflow_mul-places : goal.overflow_mul-places

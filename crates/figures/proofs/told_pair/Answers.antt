@@ -1,5 +1,4 @@
 use Rattle.figures.specs.Figures.{told_pair}
-use borrow.Author.Rules.{rules}
 use Rattle.figures.proofs.told_pair.Goals as goal
 
 pub returns : goal.returns

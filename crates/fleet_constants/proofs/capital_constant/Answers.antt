@@ -1,7 +1,6 @@
 use mathlib.Core.Path.{refl}
 use Rattle.constants.specs.Constants.{constant_of}
 use Rattle.constants.proofs.Laws.{constant-is, times-is}
-use borrow.Author.Rules.{rules}
 use Rattle.fleet_constants.proofs.capital_constant.Goals as goal
 
 pub returns : goal.returns

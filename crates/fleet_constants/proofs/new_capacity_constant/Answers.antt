@@ -1,7 +1,6 @@
 use mathlib.Core.Path.{refl}
 use Rattle.constants.specs.Constants.{constant_of}
 use Rattle.constants.proofs.Laws.{constant-is, flag-on, flag_off}
-use borrow.Author.Rules.{rules}
 use Rattle.fleet_constants.proofs.new_capacity_constant.Goals as goal
 
 pub returns-then-by_plant-eq0 : goal.returns-then-by_plant-eq0

@@ -3,7 +3,6 @@ use borrow.Author.Tests.{eq-eqb, ne_eqb}
 use Rattle.model.specs.Data.{read, existing, gen_cap}
 use Rattle.constants.specs.Constants.{constant_of}
 use Rattle.constants.proofs.Laws.{constant-is, flag-on, flag_off, off-both}
-use borrow.Author.Rules.{rules}
 use Rattle.fleet_constants.proofs.stock_constant.Goals as goal
 
 pub returns-then-y-ne0 : goal.returns-then-y-ne0

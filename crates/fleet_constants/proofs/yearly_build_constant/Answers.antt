@@ -2,7 +2,6 @@ use mathlib.Core.Path.{refl}
 use Rattle.tables.proofs.Laws.{small}
 use Rattle.constants.specs.Constants.{constant_of}
 use Rattle.constants.proofs.Laws.{constant-is, times-is, flag-on, flag_off}
-use borrow.Author.Rules.{rules}
 use Rattle.fleet_constants.proofs.yearly_build_constant.Goals as goal
 
 pub returns-then-by_plant-eq0 : goal.returns-then-by_plant-eq0

@@ -4,7 +4,6 @@ use Rattle.constants.proofs.Laws.{flag-on, flag_off}
 use Rattle.row_sums.specs.Ready.{sides_of}
 use Rattle.row_sums.proofs.Laws.{product_is, plus-if-is, two-sums, plain}
 use Rattle.fleet_rows.proofs.Laws.{nothing-plus}
-use borrow.Author.Rules.{rules}
 use Rattle.fleet_rows.proofs.fixed.Goals as goal
 
 pub returns-then-by_plant-ne0 : goal.returns-then-by_plant-ne0

@@ -1,6 +1,5 @@
 use Prim.Native.Nat.{◌+◌}
 use Rattle.fleet_rows.proofs.Laws.{existing-serves, candidate-serves}
-use borrow.Author.Rules.{rules}
 use Rattle.fleet_rows.proofs.in_service.Goals as goal
 
 pub returns-then-kind-eq0 : goal.returns-then-kind-eq0

@@ -3,7 +3,6 @@ use Prim.Native.Nat.{◌+◌}
 use Rattle.row_sums.specs.Ready.{sides_of}
 use Rattle.row_sums.proofs.Laws.{product_is, two-sums, plain}
 use Rattle.fleet_rows.proofs.Laws.{serves, idle}
-use borrow.Author.Rules.{rules}
 use Rattle.fleet_rows.proofs.life.Goals as goal
 
 pub returns-then-in_service : goal.returns-then-in_service

@@ -8,7 +8,6 @@ use Rattle.constants.specs.Constants.{constant_of}
 use Rattle.row_sums.specs.Ready.{sides_of}
 use Rattle.row_sums.proofs.Laws.{product_is, plus-is, two-sums, plain, constant}
 use Rattle.fleet_rows.proofs.Laws.{plus-nothing}
-use borrow.Author.Rules.{rules}
 use Rattle.fleet_rows.proofs.stock.Goals as goal
 
 pub returns-then-by_plant-ne0 : goal.returns-then-by_plant-ne0

@@ -4,7 +4,6 @@ use Rattle.energy.proofs.Laws.{system-energy}
 use Rattle.constants.specs.Constants.{constant_of}
 use Rattle.row_sums.specs.Ready.{sides_of}
 use Rattle.row_sums.proofs.Laws.{limit}
-use borrow.Author.Rules.{rules}
 use Rattle.fleet_rows.proofs.system_emission.Goals as goal
 
 pub returns : goal.returns

@@ -3,7 +3,6 @@ use Rattle.constants.proofs.Laws.{flag-on, flag_off}
 use Rattle.constants.specs.Constants.{constant_of}
 use Rattle.row_sums.specs.Ready.{sides_of}
 use Rattle.row_sums.proofs.Laws.{product_is, plain, limit}
-use borrow.Author.Rules.{rules}
 use Rattle.fleet_rows.proofs.yearly_build.Goals as goal
 
 pub returns-then-by_plant-eq0 : goal.returns-then-by_plant-eq0

@@ -3,7 +3,6 @@ use Rattle.texts.specs.Buffers.{text_in}
 use Rattle.text_answers.specs.Format.{certificate_of, certify_text}
 use Rattle.texts.proofs.BufferLaws.{room-new, room-kept}
 use Rattle.text_answers.proofs.Laws.{text-binds}
-use borrow.Author.Rules.{rules}
 use Rattle.frames.proofs.certify_text.Goals as goal
 
 pub read_text-requires : goal.read_text-requires

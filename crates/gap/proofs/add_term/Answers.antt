@@ -1,6 +1,5 @@
 use mathlib.Core.Path.{◌∙◌}
 use Rattle.gap.proofs.Laws.{term_is}
-use borrow.Author.Rules.{rules}
 use Rattle.gap.proofs.add_term.Goals as goal
 
 pub returns : goal.returns

@@ -1,5 +1,4 @@
 use Rattle.gap.specs.Signs.{settled}
-use borrow.Author.Rules.{rules}
 use Rattle.gap.proofs.certificate_of.Goals as goal
 
 pub returns-in-Is : goal.returns-in-Is

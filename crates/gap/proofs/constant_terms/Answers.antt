@@ -1,11 +1,8 @@
 use mathlib.Core.Path.{refl}
 use Prim.Native.Nat.{◌-◌}
-use Rattle.sums.specs.Index.{index, box_of}
 use Rattle.model.specs.Data.{read}
-use Rattle.model.specs.Families.{row_boxes, family_count}
 use Rattle.gap.specs.Signs.{term⁺, term⁻, with_term}
-use Rattle.gap.proofs.Laws.{Adding, of_second, of_first, of_year, of_family, begin, add, turn, walked-sum, walked-member, no-term⁺, no-term⁻, all-terms}
-use borrow.Author.Rules.{rules}
+use Rattle.gap.proofs.Laws.{begin, add, turn, walked-sum, walked-member, no-term⁺, no-term⁻, all-terms}
 use Rattle.gap.proofs.constant_terms.Goals as goal
 
 pub loop-k-init : goal.loop-k-init

@@ -1,7 +1,6 @@
 use mathlib.Core.Path.{◌∙◌}
 use Rattle.gap.specs.Signs.{terms_of}
 use Rattle.gap.proofs.Laws.{certified}
-use borrow.Author.Rules.{rules}
 use Rattle.gap.proofs.gap_of.Goals as goal
 
 pub returns : goal.returns

@@ -1,7 +1,6 @@
 use mathlib.Core.Path.{sym, ◌∙◌}
 use Rattle.tables.proofs.Members.{family-box}
 use Rattle.gap.specs.Signs.{walked_box}
-use borrow.Author.Rules.{rules}
 use Rattle.gap.proofs.walked_box.Goals as goal
 
 pub returns-then-has_constant : goal.returns-then-has_constant

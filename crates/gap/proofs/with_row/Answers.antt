@@ -1,7 +1,6 @@
 use Rattle.capped.proofs.Laws.{plus-plus}
 use Rattle.constants.specs.Constants.{netted_of}
 use Rattle.gap.specs.Signs.{with_row}
-use borrow.Author.Rules.{rules}
 use Rattle.gap.proofs.with_row.Goals as goal
 
 pub returns : goal.returns

@@ -1,7 +1,5 @@
 use Prim.Native.Nat.{◌-◌}
-use Rattle.model.specs.Data.{read}
-use Rattle.tables.specs.Layout.{plan_entry}
-use Rattle.terms.proofs.Laws.{Summed, summed-none, summed-more, summed-all}
+use Rattle.terms.proofs.Laws.{summed-none, summed-more, summed-all}
 use Rattle.hour_costs.specs.Costs.{slices_cost}
 use Rattle.column_prices.proofs.Laws.{by-hour}
 use Rattle.hour_costs.proofs.Laws.{joined}

@@ -1,5 +1,4 @@
 use native.Mathlib.Nat.{add-sub_cancel_left}
-use borrow.Author.Rules.{rules}
 use Rattle.hour_costs.proofs.part_of.Goals as goal
 
 pub returns : goal.returns

@@ -1,6 +1,5 @@
 use Rattle.tables.specs.Layout.{plan_entry}
 use Rattle.hour_costs.proofs.Laws.{hours-priced}
-use borrow.Author.Rules.{rules}
 use Rattle.hour_costs.proofs.slices_cost.Goals as goal
 
 pub returns : goal.returns

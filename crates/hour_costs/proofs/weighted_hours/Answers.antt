@@ -1,10 +1,7 @@
 use mathlib.Core.Path.{◌∙◌}
-use Prim.Native.Nat.{◌*◌, ◌-◌}
-use lib.ListN.{get_or, length}
+use Prim.Native.Nat.{◌-◌}
 use Rattle.capped.proofs.Laws.{plus-cap}
-use Rattle.model.specs.Data.{read, duration}
-use Rattle.terms.proofs.Laws.{Summed, summed-none, summed-more, summed-all}
-use borrow.Author.Rules.{rules}
+use Rattle.terms.proofs.Laws.{summed-none, summed-more, summed-all}
 use Rattle.hour_costs.proofs.weighted_hours.Goals as goal
 
 pub loop-s-init : goal.loop-s-init

@@ -1,10 +1,7 @@
-use mathlib.Core.Path.{◌∙◌}
 use Prim.Native.Nat.{◌*◌, ◌-◌}
 use lib.ListN.{get_or, length}
-use Rattle.capped.proofs.Laws.{plus-cap}
 use Rattle.model.specs.Data.{read, duration}
-use Rattle.terms.proofs.Laws.{Summed, summed-none, summed-more, summed-all}
-use borrow.Author.Rules.{rules}
+use Rattle.terms.proofs.Laws.{Summed}
 use Rattle.hour_costs.proofs.weighted_hours.Given as goal
 
 abbrev pub invariant-loop-s : goal.invariant-loop-s

@@ -1,4 +1,3 @@
-use borrow.Author.Rules.{rules}
 use Rattle.index_words.proofs.say_counted.Goals as goal
 
 pub returns : goal.returns

@@ -2,7 +2,6 @@ use Rattle.sums.specs.Index.{index_of}
 use Rattle.writer.proofs.Laws.{said-none, said_same}
 use Rattle.index_words.proofs.Laws.{no_index}
 use Rattle.index_words.specs.Indices.{index_words}
-use borrow.Author.Rules.{rules}
 use Rattle.index_words.proofs.say_index.Goals as goal
 
 pub returns-in-121 : goal.returns-in-121

@@ -1,10 +1,8 @@
 use mathlib.Core.Path.{sym, ap}
 use lib.Seq.{take_all}
-use Prim.Native.Nat.{◌-◌, ◌≤◌}
+use Prim.Native.Nat.{◌-◌}
 use borrow.Author.Rules.{rules}
-use lib.ListN.{length, take}
 use Rattle.sums.specs.Index.{index_of}
-use Rattle.writer.specs.Writing.{Said}
 use Rattle.writer.proofs.Laws.{said-none, said-joined, said_same}
 use Rattle.index_words.specs.Indices.{letters_words}
 use Rattle.index_words.proofs.Laws.{no-letters, one-letter-more}

@@ -1,5 +1,4 @@
 use Rattle.index_words.specs.Indices.{place_words}
-use borrow.Author.Rules.{rules}
 use Rattle.index_words.proofs.say_place.Goals as goal
 
 pub returns : goal.returns

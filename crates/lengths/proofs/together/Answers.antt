@@ -1,6 +1,5 @@
 use native.Mathlib.Omega.{arith}
 use Rattle.lengths.proofs.Laws.{length-least}
-use borrow.Author.Rules.{rules}
 use Rattle.lengths.proofs.together.Goals as goal
 
 pub overflow_add-result : goal.overflow_add-result

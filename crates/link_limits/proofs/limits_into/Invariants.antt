@@ -1,12 +1,9 @@
-use mathlib.Core.Path.{◌∙◌}
 use mathlib.Core.Bool.{not}
 use Prim.Native.Nat.{◌-◌}
-use native.Mathlib.Omega.{arith}
 use lib.Dec.{eqb}
 use Rattle.sums.specs.Sum.{on}
 use Rattle.model.specs.Data.{read, tl, most32}
-use Rattle.terms.proofs.Laws.{Added, added_none, added_more, added-all}
-use borrow.Author.Rules.{rules}
+use Rattle.terms.proofs.Laws.{Added}
 use Rattle.link_limits.proofs.limits_into.Given as goal
 
 abbrev pub invariant-loop-u : goal.invariant-loop-u

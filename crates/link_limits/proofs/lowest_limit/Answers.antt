@@ -1,6 +1,5 @@
 use Prim.Native.Nat.{◌-◌}
-use Rattle.model.specs.Data.{read, tl, most32}
-use Rattle.link_limits.proofs.Laws.{Lowest, lowest-one, lowest-more, lowest-all}
+use Rattle.link_limits.proofs.Laws.{lowest-one, lowest-more, lowest-all}
 use borrow.Author.Rules.{rules}
 use Rattle.link_limits.proofs.lowest_limit.Goals as goal
 

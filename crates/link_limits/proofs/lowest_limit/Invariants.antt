@@ -1,7 +1,6 @@
 use Prim.Native.Nat.{◌-◌}
 use Rattle.model.specs.Data.{read, tl, most32}
-use Rattle.link_limits.proofs.Laws.{Lowest, lowest-one, lowest-more, lowest-all}
-use borrow.Author.Rules.{rules}
+use Rattle.link_limits.proofs.Laws.{Lowest}
 use Rattle.link_limits.proofs.lowest_limit.Given as goal
 
 abbrev pub invariant-loop-q : goal.invariant-loop-q

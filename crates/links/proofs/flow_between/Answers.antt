@@ -1,4 +1,3 @@
-use borrow.Author.Rules.{rules}
 use Rattle.links.proofs.flow_between.Goals as goal
 
 pub returns-then-inward : goal.returns-then-inward

@@ -1,12 +1,10 @@
-use mathlib.Core.Path.{◌∙◌}
 use mathlib.Core.Bool.{not}
 use Prim.Native.Nat.{◌*◌, ◌-◌}
 use lib.Dec.{eqb}
 use Rattle.sums.specs.Sum.{on}
 use Rattle.tables.specs.Layout.{plan_entry}
 use Rattle.links.specs.Links.{link}
-use Rattle.terms.proofs.Laws.{plus-on, Summed, summed-none, summed-more, summed-all}
-use borrow.Author.Rules.{rules}
+use Rattle.terms.proofs.Laws.{Summed}
 use Rattle.links.proofs.flows.Given as goal
 
 abbrev pub invariant-loop-u : goal.invariant-loop-u

@@ -1,4 +1,3 @@
-use mathlib.Core.Path.{◌∙◌}
 use mathlib.Core.Bool.{not}
 use Prim.Native.Nat.{◌*◌, ◌-◌}
 use lib.Dec.{eqb}
@@ -6,8 +5,7 @@ use Rattle.sums.specs.Sum.{on}
 use Rattle.model.specs.Data.{read, mw_per_line}
 use Rattle.model.specs.Columns.{total_lines}
 use Rattle.tables.specs.Layout.{plan_entry}
-use Rattle.terms.proofs.Laws.{plus-on, Summed, summed-none, summed-more, summed-all}
-use borrow.Author.Rules.{rules}
+use Rattle.terms.proofs.Laws.{Summed}
 use Rattle.links.proofs.lines_into.Given as goal
 
 abbrev pub invariant-loop-u : goal.invariant-loop-u

@@ -1,13 +1,6 @@
 use mathlib.Core.Path.{◌∙◌}
-use mathlib.Core.Bool.{not}
-use Prim.Native.Nat.{◌*◌, ◌-◌}
-use lib.Dec.{eqb}
-use Rattle.sums.specs.Sum.{on}
-use Rattle.model.specs.Data.{read, loss}
-use Rattle.model.specs.Columns.{trans}
-use Rattle.tables.specs.Layout.{plan_entry}
-use Rattle.terms.proofs.Laws.{plus-on, Summed, summed-none, summed-more, summed-all}
-use borrow.Author.Rules.{rules}
+use Prim.Native.Nat.{◌-◌}
+use Rattle.terms.proofs.Laws.{plus-on, summed-none, summed-more, summed-all}
 use Rattle.links.proofs.received.Goals as goal
 
 pub loop-u-init : goal.loop-u-init

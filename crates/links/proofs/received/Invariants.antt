@@ -1,4 +1,3 @@
-use mathlib.Core.Path.{◌∙◌}
 use mathlib.Core.Bool.{not}
 use Prim.Native.Nat.{◌*◌, ◌-◌}
 use lib.Dec.{eqb}
@@ -6,8 +5,7 @@ use Rattle.sums.specs.Sum.{on}
 use Rattle.model.specs.Data.{read, loss}
 use Rattle.model.specs.Columns.{trans}
 use Rattle.tables.specs.Layout.{plan_entry}
-use Rattle.terms.proofs.Laws.{plus-on, Summed, summed-none, summed-more, summed-all}
-use borrow.Author.Rules.{rules}
+use Rattle.terms.proofs.Laws.{Summed}
 use Rattle.links.proofs.received.Given as goal
 
 abbrev pub invariant-loop-u : goal.invariant-loop-u

@@ -1,6 +1,5 @@
 use mathlib.Core.Path.{◌∙◌}
 use native.Mathlib.Omega.{arith}
-use borrow.Author.Rules.{rules}
 use Rattle.peaks.proofs.Laws.{part-below, part-peak}
 use Rattle.peaks.proofs.zone_peak.Goals as goal
 

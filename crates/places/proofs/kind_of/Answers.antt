@@ -1,7 +1,5 @@
-use Prim.Native.Nat.{◌≤◌, ◌<◌, ◌-◌}
+use Prim.Native.Nat.{◌-◌}
 use native.Mathlib.Omega.{arith}
-use lib.ListN.{get_or}
-use borrow.Author.Rules.{rules}
 use Rattle.places.proofs.Laws.{some-kind, more-kinds}
 use Rattle.places.proofs.kind_of.Goals as goal
 

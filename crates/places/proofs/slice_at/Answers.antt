@@ -1,6 +1,5 @@
 use mathlib.Core.Path.{refl}
 use Rattle.places.specs.Numbers.{slice_at}
-use borrow.Author.Rules.{rules}
 use Rattle.places.proofs.slice_at.Goals as goal
 
 pub returns : goal.returns

@@ -1,6 +1,5 @@
 use Rattle.writer.proofs.Laws.{said-joined}
 use Rattle.plain_words.specs.Plain.{frame_words}
-use borrow.Author.Rules.{rules}
 use Rattle.plain_words.proofs.say_frame.Goals as goal
 
 pub returns : goal.returns

@@ -1,7 +1,6 @@
 use borrow.Author.Tests.{eq-eqb, ne_eqb}
 use Rattle.writer.proofs.Laws.{said-joined}
 use Rattle.plain_words.specs.Plain.{scale_taken}
-use borrow.Author.Rules.{rules}
 use Rattle.plain_words.proofs.say_scale_taken.Goals as goal
 
 pub returns-then-scal-eq0 : goal.returns-then-scal-eq0

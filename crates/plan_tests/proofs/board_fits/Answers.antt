@@ -2,7 +2,6 @@ use mathlib.Core.Path.{ap, ◌∙◌}
 use native.Mathlib.Omega.{arith}
 use lib.Dec.{leb}
 use Rattle.plan_tests.proofs.Laws.{year-late, year-in-time}
-use borrow.Author.Rules.{rules}
 use Rattle.plan_tests.proofs.board_fits.Goals as goal
 
 pub returns-then-year-years : goal.returns-then-year-years

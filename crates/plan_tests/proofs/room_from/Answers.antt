@@ -1,6 +1,5 @@
 use mathlib.Core.Path.{refl}
 use native.Mathlib.Omega.{arith}
-use borrow.Author.Rules.{rules}
 use Rattle.plan_tests.proofs.room_from.Goals as goal
 
 pub returns-then-start-places : goal.returns-then-start-places

@@ -1,13 +1,8 @@
-use mathlib.Core.Path.{◌∙◌, sym, ap}
 use Prim.Native.Nat.{◌-◌}
-use Rattle.capped.specs.Cap.{cap}
 use Rattle.model.specs.Data.{read}
 use Rattle.tables.specs.Layout.{plan_entry}
-use Rattle.terms.proofs.Laws.{Summed, summed-none, summed-more, summed-all}
+use Rattle.terms.proofs.Laws.{Summed}
 use Rattle.hour_costs.specs.Costs.{year_cost}
-use Rattle.hour_costs.proofs.Laws.{joined}
-use Rattle.prices.proofs.Laws.{cost-by-year}
-use borrow.Author.Rules.{rules}
 use Rattle.prices.proofs.cost_of.Given as goal
 
 abbrev pub invariant-loop-y : goal.invariant-loop-y

@@ -2,11 +2,8 @@ use Prim.Native.Nat.{◌-◌}
 use Rattle.sums.specs.Index.{index}
 use Rattle.model.specs.Data.{read}
 use Rattle.tables.specs.Layout.{plan_entry}
-use Rattle.terms.proofs.Laws.{Summed, summed-none, summed-more, summed-all}
+use Rattle.terms.proofs.Laws.{Summed}
 use Rattle.hour_costs.specs.Costs.{term}
-use Rattle.hour_costs.proofs.Laws.{joined}
-use Rattle.prices.proofs.Laws.{by-year, yearly-entry, units-priced}
-use borrow.Author.Rules.{rules}
 use Rattle.prices.proofs.units_cost.Given as goal
 
 abbrev pub invariant-loop-j : goal.invariant-loop-j

@@ -1,11 +1,8 @@
 use Prim.Native.Nat.{◌-◌}
 use Rattle.model.specs.Data.{read}
 use Rattle.tables.specs.Layout.{plan_entry}
-use Rattle.terms.proofs.Laws.{Summed, summed-none, summed-more, summed-all}
+use Rattle.terms.proofs.Laws.{Summed}
 use Rattle.hour_costs.specs.Costs.{units_cost}
-use Rattle.prices.proofs.Laws.{by-year}
-use Rattle.hour_costs.proofs.Laws.{joined}
-use borrow.Author.Rules.{rules}
 use Rattle.prices.proofs.yearly_cost.Given as goal
 
 abbrev pub invariant-loop-i : goal.invariant-loop-i

@@ -4,7 +4,6 @@ use Rattle.model.specs.declared.Counts.{Counts}
 use Rattle.model.specs.Columns.{column_boxes}
 use Rattle.tables.proofs.Members.{column-inside}
 use Rattle.verdicts.proofs.ColumnVerdicts.{verdict-is}
-use borrow.Author.Rules.{rules}
 use Rattle.pricing.proofs.test_column.Goals as goal
 
 pub column_sums-sums-requires : goal.column_sums-sums-requires

@@ -1,14 +1,9 @@
 use mathlib.Core.Path.{refl, ◌∙◌}
-use Prim.Native.Nat.{◌*◌, ◌-◌}
+use Prim.Native.Nat.{◌-◌}
 use native.Mathlib.Omega.{arith}
-use Rattle.sums.specs.Index.{index}
-use Rattle.model.specs.Data.{read}
-use Rattle.model.specs.Columns.{column_boxes, column_kind_count}
-use Rattle.model.specs.Tests.{column_fault}
-use Rattle.tables.proofs.Steps.{Going, Walked, of_second, of_first, of_year, year_members, none, more, turn, walked_none, walked_more, walked_all}
+use Rattle.tables.proofs.Steps.{none, more, turn, walked_none, walked_more, walked_all}
 use Rattle.tables.proofs.Steps.{member-number, member_below, stopped, outcome-fine, outcome-fails}
 use Rattle.pricing.proofs.Steps.{table_below, tables_end, columns-fit, box-is, column-member, first_below, second_below, year-below, answered}
-use borrow.Author.Rules.{rules}
 use Rattle.pricing.proofs.test_columns.Goals as goal
 
 pub walk-init : goal.walk-init

@@ -1,4 +1,3 @@
-use borrow.Author.Rules.{rules}
 use Rattle.ranges.proofs.plant_year.Goals as goal
 
 pub returns-then-b : goal.returns-then-b

@@ -2,7 +2,6 @@ use mathlib.Core.Path.{ap, ◌∙◌}
 use Rattle.model.specs.Data.{read}
 use Rattle.ranges.specs.Ranges.{ranged}
 use Rattle.ranges.proofs.Within.{fixed-is}
-use borrow.Author.Rules.{rules}
 use Rattle.ranges.proofs.range_at.Goals as goal
 
 pub is_existing-requires : goal.is_existing-requires

@@ -1,7 +1,6 @@
 use Rattle.model.specs.Families.{row_boxes}
 use Rattle.constants.specs.Constants.{constant_of}
 use Rattle.row_constants.proofs.Laws.{without, without-arm, member-at}
-use borrow.Author.Rules.{rules}
 use Rattle.row_constants.proofs.constant_at.Goals as goal
 
 pub balance_constant-requires : goal.balance_constant-requires

@@ -1,4 +1,3 @@
-use borrow.Author.Rules.{rules}
 use Rattle.row_sums.proofs.empty.Goals as goal
 
 pub returns : goal.returns

@@ -1,6 +1,5 @@
 use Rattle.constants.specs.Constants.{netted_of}
 use Rattle.row_sums.specs.Ready.{sides_with}
-use borrow.Author.Rules.{rules}
 use Rattle.row_sums.proofs.with_constant.Goals as goal
 
 pub returns : goal.returns

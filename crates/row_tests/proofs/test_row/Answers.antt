@@ -3,7 +3,6 @@ use Rattle.sums.specs.Index.{number, index_of}
 use Rattle.model.specs.declared.Counts.{Counts}
 use Rattle.model.specs.Families.{row_boxes}
 use Rattle.verdicts.proofs.RowVerdicts.{verdict-is}
-use borrow.Author.Rules.{rules}
 use Rattle.row_tests.proofs.test_row.Goals as goal
 
 pub returns : goal.returns

@@ -1,20 +1,14 @@
 use mathlib.Core.Path.{refl, ap, ◌∙◌}
-use Prim.Native.Nat.{◌*◌, ◌-◌}
+use Prim.Native.Nat.{◌-◌}
 use native.Mathlib.Omega.{arith}
-use Rattle.sums.specs.Index.{index}
 use Rattle.model.specs.declared.Family.{Family}
-use Rattle.model.specs.Data.{read}
-use Rattle.model.specs.Families.{row_boxes, family_count}
-use Rattle.model.specs.Tests.{row_fault}
-use Rattle.tables.specs.Layout.{plan_entry}
 use Rattle.tables.proofs.Laws.{small}
-use Rattle.tables.proofs.Steps.{Going, Walked, of_second, of_first, of_year, year_members, none, more, turn, walked_none, walked_more, walked_all}
+use Rattle.tables.proofs.Steps.{none, more, turn, walked_none, walked_more, walked_all}
 use Rattle.tables.proofs.Steps.{member-number, member_below, stopped, outcome-fine, outcome-fails}
 use Rattle.parts.specs.Years.{gen_kind, reserve_kind, charge_kind, level_kind}
 use Rattle.parts.proofs.Parts.{places-are, part-asked}
 use Rattle.rows.proofs.Readiness.{ready}
 use Rattle.row_tests.proofs.Steps.{box-is, inside_is, year-below, family-below, families-end, rows_fit, answered}
-use borrow.Author.Rules.{rules}
 use Rattle.row_tests.proofs.test_rows.Goals as goal
 
 pub slices_of-requires : goal.slices_of-requires

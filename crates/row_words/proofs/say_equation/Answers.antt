@@ -1,7 +1,6 @@
 use borrow.Author.Tests.{eq-eqb, ne_eqb}
 use Rattle.writer.proofs.Laws.{said-joined}
 use Rattle.sentences.specs.Sentences.{equation_words}
-use borrow.Author.Rules.{rules}
 use Rattle.row_words.proofs.say_equation.Goals as goal
 
 pub returns-then-equation-eq0 : goal.returns-then-equation-eq0

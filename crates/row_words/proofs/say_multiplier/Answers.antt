@@ -1,6 +1,6 @@
 use Rattle.tables.proofs.Members.{row_inside}
 use Rattle.model.specs.Families.{row_boxes}
-use Rattle.data_tests.proofs.Passed.{passed-long, sound-head, counts-sound, counts-read}
+use Rattle.data_tests.proofs.Passed.{passed-long, sound-head, counts-sound}
 use Rattle.writer.proofs.Laws.{said-joined, said_same}
 use Rattle.sentences.specs.Sentences.{multiplier_rule}
 use Rattle.sentences.proofs.Laws.{numbered-asked}

@@ -4,7 +4,6 @@ use Rattle.model.specs.Families.{family_of}
 use Rattle.tables.proofs.Members.{row_inside}
 use Rattle.sentences.specs.Sentences.{row_words}
 use Rattle.index_words.proofs.Laws.{low-inside}
-use borrow.Author.Rules.{rules}
 use Rattle.row_words.proofs.say_row.Goals as goal
 
 pub family_at-f-requires : goal.family_at-f-requires

@@ -1,6 +1,5 @@
 use Rattle.writer.proofs.Laws.{said-joined}
 use Rattle.sentences.specs.Sentences.{sums_words}
-use borrow.Author.Rules.{rules}
 use Rattle.row_words.proofs.say_sums.Goals as goal
 
 pub returns : goal.returns

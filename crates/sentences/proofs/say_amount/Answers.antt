@@ -1,5 +1,4 @@
 use Rattle.sentences.specs.Sentences.{amount_words}
-use borrow.Author.Rules.{rules}
 use Rattle.sentences.proofs.say_amount.Goals as goal
 
 pub returns-in-Exactly : goal.returns-in-Exactly

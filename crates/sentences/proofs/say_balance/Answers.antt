@@ -1,5 +1,4 @@
 use Rattle.sentences.specs.Sentences.{balance_words}
-use borrow.Author.Rules.{rules}
 use Rattle.sentences.proofs.say_balance.Goals as goal
 
 pub returns-in-Is : goal.returns-in-Is

@@ -1,6 +1,5 @@
 use Rattle.writer.proofs.Laws.{said-joined}
 use Rattle.sentences.specs.Sentences.{length_words}
-use borrow.Author.Rules.{rules}
 use Rattle.sentences.proofs.say_lengths.Goals as goal
 
 pub returns : goal.returns

@@ -1,6 +1,5 @@
 use Rattle.writer.proofs.Laws.{said-joined}
 use Rattle.sentences.specs.Sentences.{range_words}
-use borrow.Author.Rules.{rules}
 use Rattle.sentences.proofs.say_range.Goals as goal
 
 pub returns : goal.returns

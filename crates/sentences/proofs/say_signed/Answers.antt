@@ -1,6 +1,5 @@
 use borrow.Author.Tests.{lt-ltb, le-ltb}
 use Rattle.sentences.specs.Sentences.{signed_words}
-use borrow.Author.Rules.{rules}
 use Rattle.sentences.proofs.say_signed.Goals as goal
 
 pub returns-then-m-gt0 : goal.returns-then-m-gt0

@@ -1,10 +1,8 @@
 use mathlib.Core.Path.{refl, sym, ◌∙◌}
-use borrow.Author.Tests.{not-true, not-false}
 use native.Mathlib.Omega.{arith}
 use Rattle.model.specs.Data.{read}
 use Rattle.model.specs.Standing.{charge_in⁺, charge_in⁻}
 use Rattle.column_terms.proofs.Laws.{plant-row, plant-ramp, none-priced, take-priced, join-priced, priced-as, ramps-are}
-use borrow.Author.Rules.{rules}
 use Rattle.storage_columns.proofs.charge_column.Goals as goal
 
 pub returns-then-not-is_battery : goal.returns-then-not-is_battery

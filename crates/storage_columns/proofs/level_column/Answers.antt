@@ -1,11 +1,9 @@
 use mathlib.Core.Path.{refl, sym, ◌∙◌}
-use borrow.Author.Tests.{not-true, not-false}
 use native.Mathlib.Omega.{arith}
 use Rattle.model.specs.Standing.{level_in⁺, level_in⁻}
 use Rattle.column_terms.proofs.Laws.{plant-row, plant-ramp, none-priced, add-priced, take-priced, take-priced-if, priced-as}
 use Rattle.column_terms.proofs.Sound.{next-ramp}
 use Rattle.tables.proofs.Laws.{few-slices}
-use borrow.Author.Rules.{rules}
 use Rattle.storage_columns.proofs.level_column.Goals as goal
 
 pub returns-then-not-is_battery : goal.returns-then-not-is_battery

@@ -3,10 +3,8 @@ use Prim.Native.Nat.{◌-◌, ◌%◌}
 use native.Mathlib.Omega.{arith}
 use lib.Dec.{ltb}
 use Rattle.row_sums.specs.Ready.{sides_of}
-use borrow.Author.Tests.{not-true, not-false}
 use Rattle.row_sums.proofs.Laws.{plain, two-sums, plus-is, product_is, part-value}
 use Rattle.storage_rows.proofs.Laws.{part-if}
-use borrow.Author.Rules.{rules}
 use Rattle.storage_rows.proofs.battery_level.Goals as goal
 
 pub returns-then-not-is_battery : goal.returns-then-not-is_battery

@@ -3,7 +3,6 @@ use native.Mathlib.Nat.{zero-add}
 use Rattle.capped.specs.Cap.{cap}
 use Rattle.row_sums.specs.Ready.{sides_of}
 use Rattle.row_sums.proofs.Laws.{plain, two-sums, plus-if-is, product_is, part-value}
-use borrow.Author.Rules.{rules}
 use Rattle.storage_rows.proofs.charge_limit.Goals as goal
 
 pub returns : goal.returns

@@ -1,5 +1,3 @@
-use borrow.Author.Rules.{rules}
-use borrow.Author.Tests.{not-true, not-false}
 use Rattle.storage_rows.proofs.charge_ramp.Goals as goal
 
 pub returns-then-not-is_battery : goal.returns-then-not-is_battery

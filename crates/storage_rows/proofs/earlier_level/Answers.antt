@@ -1,6 +1,5 @@
 use mathlib.Core.Path.{refl}
 use Rattle.row_sums.proofs.Laws.{product_is, first-hour, later-hour, some-before}
-use borrow.Author.Rules.{rules}
 use Rattle.storage_rows.proofs.earlier_level.Goals as goal
 
 pub returns-then-first_hour : goal.returns-then-first_hour

@@ -2,7 +2,6 @@ use mathlib.Core.Path.{refl}
 use Rattle.constants.specs.Constants.{constant_of}
 use Rattle.row_sums.specs.Ready.{sides_of}
 use Rattle.row_sums.proofs.Laws.{limit, product_is, part-value}
-use borrow.Author.Rules.{rules}
 use Rattle.storage_rows.proofs.level_limit.Goals as goal
 
 pub returns : goal.returns

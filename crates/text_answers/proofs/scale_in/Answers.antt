@@ -1,5 +1,4 @@
 use Rattle.text_answers.proofs.Laws.{no-scale, one-scale}
-use borrow.Author.Rules.{rules}
 use Rattle.text_answers.proofs.scale_in.Goals as goal
 
 pub returns-then-scal-eq0 : goal.returns-then-scal-eq0

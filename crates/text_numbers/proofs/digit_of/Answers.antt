@@ -1,5 +1,4 @@
 use Rattle.text_numbers.proofs.NumberLaws.{digit_low, digit-figure, digit-between, digit-letter, digit-high}
-use borrow.Author.Rules.{rules}
 use Rattle.text_numbers.proofs.digit_of.Goals as goal
 
 pub returns-then-b-lt48 : goal.returns-then-b-lt48

@@ -1,8 +1,7 @@
 use mathlib.Core.Path.{◌≡◌, refl, sym, ◌∙◌}
-use Prim.Native.Nat.{◌-◌, ◌≤◌}
+use Prim.Native.Nat.{◌-◌}
 use native.Mathlib.Omega.{arith}
 use borrow.Author.Rules.{rules}
-use Rattle.text_numbers.specs.declared.Number.TheVariants.{Value}
 use Rattle.text_numbers.specs.Numbers.{digits_at}
 use Rattle.text_numbers.proofs.NumberLaws.{digits-room, digits_more, digits-stop}
 use Rattle.text_numbers.proofs.digits_at.Goals as goal

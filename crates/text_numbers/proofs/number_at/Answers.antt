@@ -1,6 +1,5 @@
 use mathlib.Core.Path.{sym, ◌∙◌}
 use Rattle.text_numbers.proofs.NumberLaws.{number-spaced, number-unspaced}
-use borrow.Author.Rules.{rules}
 use Rattle.text_numbers.proofs.number_at.Goals as goal
 
 pub returns-then-line-at-ne-SPACE : goal.returns-then-line-at-ne-SPACE

@@ -1,5 +1,4 @@
 use Rattle.text_numbers.proofs.NumberLaws.{signed_low, signed-high-fits, signed_high}
-use borrow.Author.Rules.{rules}
 use Rattle.text_numbers.proofs.signed_of.Goals as goal
 
 pub returns-then-n-lt9223372036854775808 : goal.returns-then-n-lt9223372036854775808

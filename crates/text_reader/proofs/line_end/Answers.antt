@@ -1,8 +1,6 @@
-use mathlib.Core.Path.{◌≡◌, refl}
-use Prim.Native.Nat.{◌+◌, ◌-◌, ◌≤◌}
+use mathlib.Core.Path.{refl}
+use Prim.Native.Nat.{◌-◌}
 use borrow.Author.Rules.{rules}
-use lib.ListN.{length, drop}
-use Rattle.texts.specs.Buffers.{line_length}
 use Rattle.text_reader.proofs.Laws.{line_on, line-ends, text-ends}
 use Rattle.text_reader.proofs.line_end.Goals as goal
 

@@ -1,9 +1,8 @@
 use Prim.Native.Nat.{◌-◌}
 use borrow.Author.Rules.{rules}
-use lib.ListN.{length}
 use Rattle.texts.specs.Buffers.{line_in, text_in}
 use Rattle.texts.proofs.BufferLaws.{room-kept}
-use Rattle.text_reader.proofs.Laws.{Reached, reached-start, reached-end, reached-unended, reached-frame, reached-next}
+use Rattle.text_reader.proofs.Laws.{reached-start, reached-end, reached-unended, reached-frame, reached-next}
 use Rattle.text_reader.proofs.read_text.Goals as goal
 
 pub loop-at-init : goal.loop-at-init

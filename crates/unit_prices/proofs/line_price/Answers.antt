@@ -1,5 +1,4 @@
 use Rattle.unit_prices.proofs.Laws.{paid, unpaid}
-use borrow.Author.Rules.{rules}
 use Rattle.unit_prices.proofs.line_price.Goals as goal
 
 pub returns-then-z-w : goal.returns-then-z-w

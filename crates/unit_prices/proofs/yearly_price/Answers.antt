@@ -1,5 +1,4 @@
 use Rattle.unit_prices.proofs.Laws.{existing-price, candidate-price}
-use borrow.Author.Rules.{rules}
 use Rattle.unit_prices.proofs.yearly_price.Goals as goal
 
 pub returns-then-by_plant-eq0 : goal.returns-then-by_plant-eq0

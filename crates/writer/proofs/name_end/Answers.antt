@@ -1,9 +1,5 @@
-use mathlib.Core.Path.{◌≡◌}
-use mathlib.Core.List.{◌++◌}
-use Prim.Native.Nat.{◌-◌, ◌≤◌}
+use Prim.Native.Nat.{◌-◌}
 use borrow.Author.Rules.{rules}
-use lib.ListN.{length, take, drop}
-use Rattle.writer.specs.Names.{first_name}
 use Rattle.writer.proofs.Laws.{name-start, name-on, name-ends, names-end}
 use Rattle.writer.proofs.name_end.Goals as goal
 

@@ -1,10 +1,8 @@
 use mathlib.Core.Path.{◌≡◌}
 use mathlib.Core.List.{◌++◌}
 use Prim.Native.Nat.{◌-◌, ◌≤◌}
-use borrow.Author.Rules.{rules}
 use lib.ListN.{length, take, drop}
 use Rattle.writer.specs.Names.{first_name}
-use Rattle.writer.proofs.Laws.{name-start, name-on, name-ends, names-end}
 use Rattle.writer.proofs.name_end.Given as goal
 
 abbrev pub invariant-loop-i : goal.invariant-loop-i

@@ -1,8 +1,6 @@
-use mathlib.Core.Path.{◌≡◌, refl, ◌∙◌}
-use Prim.Native.Nat.{◌≤◌}
+use mathlib.Core.Path.{refl, ◌∙◌}
 use borrow.Author.Rules.{rules}
-use lib.ListN.{length, drop}
-use Rattle.writer.specs.Names.{name_at}
+use lib.ListN.{drop}
 use Rattle.writer.proofs.Laws.{name-later, named}
 use Rattle.writer.proofs.name_part.Goals as goal
 

@@ -1,9 +1,7 @@
-use mathlib.Core.Path.{◌≡◌, refl, ◌∙◌}
+use mathlib.Core.Path.{◌≡◌}
 use Prim.Native.Nat.{◌≤◌}
-use borrow.Author.Rules.{rules}
 use lib.ListN.{length, drop}
 use Rattle.writer.specs.Names.{name_at}
-use Rattle.writer.proofs.Laws.{name-later, named}
 use Rattle.writer.proofs.name_part.Given as goal
 
 abbrev pub invariant-loop-left : goal.invariant-loop-left

@@ -1,8 +1,6 @@
-use Prim.Native.Nat.{◌-◌, ◌≤◌}
+use Prim.Native.Nat.{◌-◌}
 use borrow.Author.Rules.{rules}
-use lib.ListN.{length}
-use Rattle.writer.specs.Writing.{room}
-use Rattle.writer.proofs.Laws.{Saying, saying-none, saying-more, said-full, said_all}
+use Rattle.writer.proofs.Laws.{saying-none, saying-more, said-full, said_all}
 use Rattle.writer.proofs.say.Goals as goal
 
 pub loop-i-init : goal.loop-i-init

@@ -1,8 +1,7 @@
 use Prim.Native.Nat.{◌-◌, ◌≤◌}
-use borrow.Author.Rules.{rules}
 use lib.ListN.{length}
 use Rattle.writer.specs.Writing.{room}
-use Rattle.writer.proofs.Laws.{Saying, saying-none, saying-more, said-full, said_all}
+use Rattle.writer.proofs.Laws.{Saying}
 use Rattle.writer.proofs.say.Given as goal
 
 abbrev pub invariant-loop-i : goal.invariant-loop-i

@@ -1,4 +1,3 @@
-use borrow.Author.Rules.{rules}
 use Rattle.writer.proofs.say_either.Goals as goal
 
 pub returns-then-holds : goal.returns-then-holds

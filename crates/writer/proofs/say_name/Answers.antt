@@ -1,5 +1,4 @@
 use Rattle.writer.proofs.Laws.{said_same}
-use borrow.Author.Rules.{rules}
 use Rattle.writer.proofs.say_name.Goals as goal
 
 pub returns : goal.returns

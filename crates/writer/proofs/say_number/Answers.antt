@@ -4,7 +4,6 @@ use lib.ListN.{length, replicate}
 use Rattle.answer_line.specs.Line.{decimal}
 use Rattle.answer_line.proofs.Laws.{decimal-length}
 use Rattle.writer.proofs.Laws.{said_same, put-within, put_first}
-use borrow.Author.Rules.{rules}
 use Rattle.writer.proofs.say_number.Goals as goal
 
 pub put_decimal-count-requires : goal.put_decimal-count-requires

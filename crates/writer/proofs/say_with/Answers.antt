@@ -1,5 +1,4 @@
 use Rattle.writer.proofs.Laws.{said-joined}
-use borrow.Author.Rules.{rules}
 use Rattle.writer.proofs.say_with.Goals as goal
 
 pub returns : goal.returns

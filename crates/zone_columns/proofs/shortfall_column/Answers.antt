@@ -1,6 +1,5 @@
 use native.Mathlib.Omega.{arith}
 use Rattle.column_terms.proofs.Laws.{none-priced, add-priced, priced-as}
-use borrow.Author.Rules.{rules}
 use Rattle.zone_columns.proofs.shortfall_column.Goals as goal
 
 pub returns : goal.returns

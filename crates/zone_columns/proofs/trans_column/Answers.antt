@@ -1,7 +1,6 @@
 use native.Mathlib.Omega.{arith}
 use Rattle.model.specs.Standing.{trans_in⁺, trans_in⁻}
 use Rattle.column_terms.proofs.Laws.{row_at, none-priced, take-priced, add-priced-if, take-priced-if, priced-as}
-use borrow.Author.Rules.{rules}
 use Rattle.zone_columns.proofs.trans_column.Goals as goal
 
 pub take_row_if-requires : goal.take_row_if-requires

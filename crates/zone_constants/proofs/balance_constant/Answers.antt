@@ -2,7 +2,6 @@ use mathlib.Core.Path.{refl}
 use Rattle.tables.proofs.Laws.{small}
 use Rattle.constants.specs.Constants.{constant_of}
 use Rattle.constants.proofs.Laws.{constant-is, times-is}
-use borrow.Author.Rules.{rules}
 use Rattle.zone_constants.proofs.balance_constant.Goals as goal
 
 pub overflow_mul-result : goal.overflow_mul-result

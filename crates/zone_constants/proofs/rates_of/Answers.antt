@@ -2,7 +2,6 @@ use mathlib.Core.Path.{ap}
 use Prim.Native.Nat.{ℕ, ◌+◌}
 use native.Mathlib.Omega.{arith}
 use Rattle.zone_constants.proofs.Laws.{few-ee, few-prm}
-use borrow.Author.Rules.{rules}
 use Rattle.zone_constants.proofs.rates_of.Goals as goal
 
 pub returns : goal.returns

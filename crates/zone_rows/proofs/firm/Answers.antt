@@ -2,7 +2,6 @@ use mathlib.Core.Path.{refl, ◌∙◌}
 use Rattle.constants.specs.Constants.{constant_of}
 use Rattle.row_sums.specs.Ready.{sides_of}
 use Rattle.row_sums.proofs.Laws.{constant, plus-is}
-use borrow.Author.Rules.{rules}
 use Rattle.zone_rows.proofs.firm.Goals as goal
 
 pub returns : goal.returns

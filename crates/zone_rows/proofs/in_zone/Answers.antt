@@ -5,7 +5,6 @@ use Rattle.sums.specs.Sum.{on}
 use Rattle.model.specs.Data.{read, zone}
 use Rattle.row_sums.proofs.Laws.{plus-is, join_is}
 use Rattle.zone_rows.proofs.Laws.{part-sum}
-use borrow.Author.Rules.{rules}
 use Rattle.zone_rows.proofs.in_zone.Goals as goal
 
 pub returns : goal.returns

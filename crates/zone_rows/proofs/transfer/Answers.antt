@@ -2,7 +2,6 @@ use mathlib.Core.Path.{refl}
 use Rattle.constants.specs.Constants.{constant_of}
 use Rattle.row_sums.specs.Ready.{sides_of}
 use Rattle.row_sums.proofs.Laws.{product_is, constant}
-use borrow.Author.Rules.{rules}
 use Rattle.zone_rows.proofs.transfer.Goals as goal
 
 pub returns : goal.returns

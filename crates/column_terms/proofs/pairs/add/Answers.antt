@@ -1,4 +1,3 @@
-use borrow.Author.Rules.{rules}
 use Rattle.column_terms.specs.Pairs.{added}
 use Rattle.column_terms.proofs.pairs.add.Goals as goal
 

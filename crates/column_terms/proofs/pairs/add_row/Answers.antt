@@ -1,5 +1,4 @@
 use mathlib.Core.Path.{◌∙◌}
-use borrow.Author.Rules.{rules}
 use Rattle.column_terms.specs.Pairs.{row_multiplier}
 use Rattle.column_terms.proofs.Laws.{readable}
 use Rattle.column_terms.proofs.pairs.add_row.Goals as goal

@@ -1,4 +1,3 @@
-use borrow.Author.Rules.{rules}
 use Rattle.column_terms.specs.Pairs.{joined}
 use Rattle.column_terms.proofs.pairs.join.Goals as goal
 

@@ -1,4 +1,3 @@
-use borrow.Author.Rules.{rules}
 use Rattle.column_terms.specs.Pairs.{no_terms}
 use Rattle.column_terms.proofs.pairs.none.Goals as goal
 

@@ -1,4 +1,3 @@
-use borrow.Author.Rules.{rules}
 use Rattle.column_terms.specs.Pairs.{taken}
 use Rattle.column_terms.proofs.pairs.take.Goals as goal
 

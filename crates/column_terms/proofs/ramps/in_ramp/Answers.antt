@@ -1,6 +1,4 @@
 use native.Mathlib.Omega.{arith}
-use borrow.Author.Tests.{not-true, not-false}
-use borrow.Author.Rules.{rules}
 use Rattle.column_terms.proofs.Laws.{none-priced, add-priced, take-priced, priced-as}
 use Rattle.column_terms.proofs.Sound.{ramp-inside, ramp-place}
 use Rattle.column_terms.proofs.ramps.in_ramp.Goals as goal

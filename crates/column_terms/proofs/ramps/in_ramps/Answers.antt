@@ -4,7 +4,6 @@ use Rattle.tables.proofs.Laws.{few-slices}
 use Rattle.column_terms.specs.Ramps.{in_ramps}
 use Rattle.column_terms.proofs.Laws.{join-priced, priced-as}
 use Rattle.column_terms.proofs.Sound.{ramp-slice, next-ramp}
-use borrow.Author.Rules.{rules}
 use Rattle.column_terms.proofs.ramps.in_ramps.Goals as goal
 
 pub overflow_add-next : goal.overflow_add-next

@@ -1,6 +1,5 @@
 use Prim.Native.Nat.{◌%◌}
 use Rattle.parts.proofs.Laws.{after_first}
-use borrow.Author.Rules.{rules}
 use Rattle.column_terms.proofs.readers.after_first_hour.Goals as goal
 
 pub returns : goal.returns

@@ -1,7 +1,6 @@
 use Prim.Native.Nat.{◌≤◌}
 use Rattle.tables.proofs.Laws.{small}
 use Rattle.column_terms.proofs.Sound.{few-availability}
-use borrow.Author.Rules.{rules}
 use Rattle.column_terms.proofs.readers.available_hours.Goals as goal
 
 pub overflow_mul-result : goal.overflow_mul-result

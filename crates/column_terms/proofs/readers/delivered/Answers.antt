@@ -1,6 +1,5 @@
 use native.Mathlib.Omega.{arith}
 use Rattle.column_terms.proofs.Sound.{few-loss}
-use borrow.Author.Rules.{rules}
 use Rattle.column_terms.proofs.readers.delivered.Goals as goal
 
 pub overflow_sub-result : goal.overflow_sub-result

@@ -1,6 +1,5 @@
 use mathlib.Core.Path.{◌∙◌}
 use Rattle.column_terms.proofs.Sound.{fuel-below}
-use borrow.Author.Rules.{rules}
 use Rattle.column_terms.proofs.readers.fuel_of.Goals as goal
 
 pub returns : goal.returns

@@ -1,5 +1,4 @@
 use Rattle.tables.proofs.Laws.{small}
-use borrow.Author.Rules.{rules}
 use Rattle.column_terms.proofs.readers.hourly.Goals as goal
 
 pub overflow_mul-result : goal.overflow_mul-result

@@ -1,4 +1,3 @@
-use borrow.Author.Rules.{rules}
 use Rattle.column_terms.proofs.readers.on_min_load_day.Goals as goal
 
 pub returns : goal.returns

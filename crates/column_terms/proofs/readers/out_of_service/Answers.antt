@@ -1,6 +1,5 @@
 use Rattle.model.specs.Data.{read}
 use Rattle.column_terms.proofs.Sound.{existing-out, candidate-out}
-use borrow.Author.Rules.{rules}
 use Rattle.column_terms.proofs.readers.out_of_service.Goals as goal
 
 pub returns-then-by_plant-eq0 : goal.returns-then-by_plant-eq0

@@ -1,7 +1,6 @@
 use Prim.Native.Nat.{◌≤◌}
 use Rattle.tables.proofs.Laws.{small}
 use Rattle.column_terms.proofs.Sound.{few-weights}
-use borrow.Author.Rules.{rules}
 use Rattle.column_terms.proofs.readers.weighted_annuity.Goals as goal
 
 pub overflow_mul-result : goal.overflow_mul-result

@@ -1,6 +1,5 @@
 use mathlib.Core.Path.{refl}
 use Rattle.constants.specs.Constants.{has_constant}
-use borrow.Author.Rules.{rules}
 use Rattle.constants.proofs.families.has_constant.Goals as goal
 
 pub returns : goal.returns

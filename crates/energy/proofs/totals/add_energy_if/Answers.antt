@@ -1,11 +1,10 @@
 use mathlib.Core.Path.{◌≡◌, refl, ap, ◌∙◌}
 use mathlib.Core.Bool.{true}
-use Prim.Native.Nat.{◌-◌, ◌≤◌}
+use Prim.Native.Nat.{◌-◌}
 use native.Mathlib.Omega.{arith}
 use borrow.Author.Rules.{rules}
-use borrow.Author.Tests.{not-true, not-false}
 use Rattle.capped.specs.Cap.{both, times}
-use Rattle.energy.specs.Energies.{energy_at, all_if, all_of}
+use Rattle.energy.specs.Energies.{energy_at, all_if}
 use Rattle.energy.proofs.Laws.{all_more, all_done}
 use Rattle.energy.proofs.totals.add_energy_if.Goals as goal
 

@@ -1,12 +1,7 @@
-use mathlib.Core.Path.{◌≡◌, refl, ap, ◌∙◌}
-use mathlib.Core.Bool.{true}
+use mathlib.Core.Path.{◌≡◌}
 use Prim.Native.Nat.{◌-◌, ◌≤◌}
-use native.Mathlib.Omega.{arith}
-use borrow.Author.Rules.{rules}
-use borrow.Author.Tests.{not-true, not-false}
-use Rattle.capped.specs.Cap.{both, times}
-use Rattle.energy.specs.Energies.{energy_at, all_if, all_of}
-use Rattle.energy.proofs.Laws.{all_more, all_done}
+use Rattle.capped.specs.Cap.{times}
+use Rattle.energy.specs.Energies.{energy_at, all_of}
 use Rattle.energy.proofs.totals.add_energy_if.Given as goal
 
 abbrev pub invariant-loop-q : goal.invariant-loop-q

@@ -1,14 +1,8 @@
-use mathlib.Core.Path.{◌≡◌, refl, ◌∙◌}
-use mathlib.Core.Bool.{Bool, ◌&&◌}
-use mathlib.Core.List.{List}
-use Prim.Native.Nat.{ℕ, ◌-◌, ◌≤◌}
+use mathlib.Core.Path.{refl, ◌∙◌}
+use Prim.Native.Nat.{◌-◌}
 use native.Mathlib.Omega.{arith}
 use borrow.Author.Rules.{rules}
-use lib.Dec.{eqb}
-use Rattle.capped.specs.declared.Sum.{Sum}
-use Rattle.model.specs.declared.Counts.{Counts}
-use Rattle.model.specs.Data.{read, zone, fuel, heat_rate}
-use Rattle.energy.specs.Energies.{all_if, year_energy}
+use Rattle.energy.specs.Energies.{all_if}
 use Rattle.energy.proofs.Laws.{all_more, all_done, plant-read}
 use Rattle.energy.proofs.totals.burned.Invariants.{burns, burned_by}
 use Rattle.energy.proofs.totals.burned.Goals as goal

@@ -1,13 +1,9 @@
-use mathlib.Core.Path.{◌≡◌, refl}
+use mathlib.Core.Path.{refl}
 use mathlib.Core.Bool.{true}
-use mathlib.Core.List.{List}
-use Prim.Native.Nat.{ℕ, ◌-◌, ◌≤◌}
+use Prim.Native.Nat.{◌-◌}
 use native.Mathlib.Omega.{arith}
 use borrow.Author.Rules.{rules}
-use Rattle.capped.specs.declared.Sum.{Sum}
-use Rattle.model.specs.declared.Counts.{Counts}
-use Rattle.model.specs.Data.{read, emission}
-use Rattle.energy.specs.Energies.{all_if, all_of, year_energy}
+use Rattle.energy.specs.Energies.{all_if}
 use Rattle.energy.proofs.Laws.{all_more, all_done, plant-read}
 use Rattle.energy.proofs.totals.emitted.Invariants.{emitted_by}
 use Rattle.energy.proofs.totals.emitted.Goals as goal

@@ -1,14 +1,10 @@
-use mathlib.Core.Path.{◌≡◌, refl}
-use mathlib.Core.Bool.{true}
+use mathlib.Core.Path.{◌≡◌}
 use mathlib.Core.List.{List}
 use Prim.Native.Nat.{ℕ, ◌-◌, ◌≤◌}
-use native.Mathlib.Omega.{arith}
-use borrow.Author.Rules.{rules}
 use Rattle.capped.specs.declared.Sum.{Sum}
 use Rattle.model.specs.declared.Counts.{Counts}
 use Rattle.model.specs.Data.{read, emission}
-use Rattle.energy.specs.Energies.{all_if, all_of, year_energy}
-use Rattle.energy.proofs.Laws.{all_more, all_done, plant-read}
+use Rattle.energy.specs.Energies.{all_of, year_energy}
 use Rattle.energy.proofs.totals.emitted.Given as goal
 
 -- what plant g adds

@@ -1,15 +1,12 @@
-use mathlib.Core.Path.{◌≡◌, refl, ap}
+use mathlib.Core.Path.{◌≡◌}
 use mathlib.Core.Bool.{Bool}
 use mathlib.Core.List.{List}
 use Prim.Native.Nat.{ℕ, ◌-◌, ◌≤◌}
-use native.Mathlib.Omega.{arith}
-use borrow.Author.Rules.{rules}
 use lib.Dec.{eqb}
 use Rattle.capped.specs.declared.Sum.{Sum}
 use Rattle.model.specs.declared.Counts.{Counts}
 use Rattle.model.specs.Data.{read, zone, emission}
 use Rattle.energy.specs.Energies.{all_if, year_energy}
-use Rattle.energy.proofs.Laws.{all_more, all_done, plant-read}
 use Rattle.energy.proofs.totals.emitted_in.Given as goal
 
 -- whether plant g is in the zone, and what it adds

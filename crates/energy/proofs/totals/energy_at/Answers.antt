@@ -1,5 +1,4 @@
 use native.Mathlib.Omega.{arith}
-use borrow.Author.Rules.{rules}
 use Rattle.energy.proofs.Laws.{few-plants}
 use Rattle.energy.proofs.totals.energy_at.Goals as goal
 

@@ -1,13 +1,10 @@
-use mathlib.Core.Path.{◌≡◌, ◌∙◌, ap}
+use mathlib.Core.Path.{◌≡◌}
 use Prim.Native.Nat.{◌+◌, ◌*◌, ◌-◌, ◌≤◌}
-use native.Mathlib.Omega.{arith}
-use borrow.Author.Rules.{rules}
 use lib.ListN.{get_or}
 use Rattle.capped.specs.Cap.{cap}
 use Rattle.sums.specs.Sum.{sum}
 use Rattle.model.specs.Counts.{slices_of}
 use Rattle.model.specs.Data.{read, duration}
-use Rattle.energy.proofs.Laws.{more, season-is, slice-below, few-season-slices, duration-read}
 use Rattle.energy.proofs.totals.season_energy.Given as goal
 
 abbrev pub invariant-loop-i : goal.invariant-loop-i

@@ -1,7 +1,6 @@
 use native.Mathlib.Nat.{add-sub_cancel_left}
 use lib.Seq.{drop-drop}
 use Rattle.model.specs.Calls.{replaced}
-use borrow.Author.Rules.{rules}
 use Rattle.parts.proofs.board.replace.Goals as goal
 
 pub returns : goal.returns

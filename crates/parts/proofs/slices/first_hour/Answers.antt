@@ -1,5 +1,4 @@
 use mathlib.Core.Path.{refl}
-use borrow.Author.Rules.{rules}
 use Rattle.parts.proofs.slices.first_hour.Goals as goal
 
 pub returns : goal.returns

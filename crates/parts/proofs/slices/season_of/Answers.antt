@@ -1,5 +1,4 @@
 use mathlib.Core.Path.{refl}
-use native.Mathlib.Omega.{arith}
 use Rattle.tables.proofs.Laws.{small}
 use Rattle.parts.proofs.Laws.{some-slices, season-below}
 use Rattle.parts.proofs.slices.season_of.Goals as goal

@@ -1,7 +1,6 @@
 use native.Mathlib.Omega.{arith}
 use Rattle.tables.proofs.Laws.{small}
 use Rattle.parts.proofs.Laws.{place-below, few-places}
-use borrow.Author.Rules.{rules}
 use Rattle.parts.proofs.years.part_at.Goals as goal
 
 pub overflow_mul-at : goal.overflow_mul-at

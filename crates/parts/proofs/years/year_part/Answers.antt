@@ -1,5 +1,4 @@
 use native.Mathlib.Nat.{add-sub_cancel_left}
-use borrow.Author.Rules.{rules}
 use Rattle.parts.proofs.years.year_part.Goals as goal
 
 pub returns : goal.returns

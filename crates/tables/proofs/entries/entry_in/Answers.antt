@@ -1,7 +1,6 @@
 use native.Mathlib.Omega.{arith}
 use mathlib.Core.Path.{◌∙◌}
 use Rattle.tables.proofs.Laws.{entry-below, entry-is}
-use borrow.Author.Rules.{rules}
 use Rattle.tables.proofs.entries.entry_in.Goals as goal
 
 pub overflow_add-tables_at : goal.overflow_add-tables_at

@@ -1,7 +1,6 @@
 use native.Mathlib.Omega.{arith}
 use mathlib.Core.Path.{◌∙◌}
 use Rattle.tables.proofs.Laws.{column-below, column-is}
-use borrow.Author.Rules.{rules}
 use Rattle.tables.proofs.entries.planned_in.Goals as goal
 
 pub overflow_add-columns_at : goal.overflow_add-columns_at

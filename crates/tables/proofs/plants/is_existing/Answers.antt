@@ -1,4 +1,3 @@
-use borrow.Author.Rules.{rules}
 use Rattle.tables.proofs.plants.is_existing.Goals as goal
 
 pub returns : goal.returns

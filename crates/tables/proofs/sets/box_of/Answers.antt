@@ -3,7 +3,6 @@ use lib.ListN.{get_or-eq_default}
 use Rattle.sums.specs.Index.{box}
 use Rattle.model.specs.Counts.{sets}
 use Rattle.tables.proofs.Laws.{boxed, none_of}
-use borrow.Author.Rules.{rules}
 use Rattle.tables.proofs.sets.box_of.Goals as goal
 
 pub returns-in-0 : goal.returns-in-0

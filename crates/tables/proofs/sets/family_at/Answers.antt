@@ -1,6 +1,5 @@
 use mathlib.Core.Path.{refl}
 use Rattle.model.specs.Families.{family_of}
-use borrow.Author.Rules.{rules}
 use Rattle.tables.proofs.sets.family_at.Goals as goal
 
 pub returns : goal.returns

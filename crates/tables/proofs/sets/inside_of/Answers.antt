@@ -3,7 +3,6 @@ use Rattle.sums.specs.declared.Box.{Box}
 use Rattle.sums.specs.Index.{inside}
 use native.Mathlib.Omega.{arith}
 use Rattle.tables.proofs.Laws.{few-inside}
-use borrow.Author.Rules.{rules}
 use Rattle.tables.proofs.sets.inside_of.Goals as goal
 
 pub overflow_mul-result : goal.overflow_mul-result

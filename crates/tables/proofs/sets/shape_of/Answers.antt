@@ -1,11 +1,11 @@
 use native.Mathlib.Omega.{arith}
-use mathlib.Core.Path.{◌≡◌, refl, ◌∙◌}
-use Prim.Native.Nat.{ℕ, ◌≤◌, ◌<◌, ◌-◌}
-use lib.ListN.{length, get_or, length-set}
+use mathlib.Core.Path.{refl, ◌∙◌}
+use Prim.Native.Nat.{◌-◌}
+use lib.ListN.{length-set}
 use borrow.Author.Rules.{rules}
 use borrow.Author.Count.{below_none}
 use Rattle.sums.specs.Index.{box_of, volume}
-use Rattle.model.specs.Families.{row_boxes, family_count}
+use Rattle.model.specs.Families.{row_boxes}
 use Rattle.tables.proofs.Laws.{stored, size_is, shape_is}
 use Rattle.tables.proofs.sets.shape_of.Goals as goal
 

@@ -1,12 +1,8 @@
-use native.Mathlib.Omega.{arith}
-use mathlib.Core.Path.{◌≡◌, refl, ◌∙◌}
+use mathlib.Core.Path.{◌≡◌}
 use Prim.Native.Nat.{ℕ, ◌≤◌, ◌<◌, ◌-◌}
-use lib.ListN.{length, get_or, length-set}
-use borrow.Author.Rules.{rules}
-use borrow.Author.Count.{below_none}
+use lib.ListN.{length, get_or}
 use Rattle.sums.specs.Index.{box_of, volume}
 use Rattle.model.specs.Families.{row_boxes, family_count}
-use Rattle.tables.proofs.Laws.{stored, size_is, shape_is}
 use Rattle.tables.proofs.sets.shape_of.Given as goal
 
 abbrev pub invariant-loop-k : goal.invariant-loop-k

@@ -1,4 +1,3 @@
-use borrow.Author.Rules.{rules}
 use Rattle.tables.proofs.starts.column_starts.Goals as goal
 
 pub returns : goal.returns

@@ -1,9 +1,8 @@
 use mathlib.Core.Path.{◌≡◌, refl, ◌∙◌}
-use Prim.Native.Nat.{ℕ, ◌≤◌, ◌<◌, ◌-◌, ◌+◌, ◌*◌}
+use Prim.Native.Nat.{◌-◌}
 use native.Mathlib.Omega.{arith}
-use lib.ListN.{length, get_or, length-set}
+use lib.ListN.{length-set}
 use borrow.Author.Rules.{rules}
-use Rattle.model.specs.Data.{table_count}
 use Rattle.tables.specs.Layout.{start_from}
 use Rattle.tables.proofs.Laws.{stored, start-zero, start-more}
 use Rattle.tables.proofs.starts.starts_from.Goals as goal

@@ -1,11 +1,8 @@
-use mathlib.Core.Path.{◌≡◌, refl, ◌∙◌}
+use mathlib.Core.Path.{◌≡◌}
 use Prim.Native.Nat.{ℕ, ◌≤◌, ◌<◌, ◌-◌, ◌+◌, ◌*◌}
-use native.Mathlib.Omega.{arith}
-use lib.ListN.{length, get_or, length-set}
-use borrow.Author.Rules.{rules}
+use lib.ListN.{length, get_or}
 use Rattle.model.specs.Data.{table_count}
 use Rattle.tables.specs.Layout.{start_from}
-use Rattle.tables.proofs.Laws.{stored, start-zero, start-more}
 use Rattle.tables.proofs.starts.starts_from.Given as goal
 
 abbrev pub invariant-loop-k : goal.invariant-loop-k

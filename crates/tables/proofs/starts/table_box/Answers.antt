@@ -1,4 +1,3 @@
-use borrow.Author.Rules.{rules}
 use Rattle.tables.proofs.starts.table_box.Goals as goal
 
 pub returns : goal.returns

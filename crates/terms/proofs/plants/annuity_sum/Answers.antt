@@ -1,11 +1,6 @@
 use mathlib.Core.Path.{◌∙◌}
-use Prim.Native.Nat.{◌*◌, ◌-◌}
-use Rattle.sums.specs.Sum.{on}
-use Rattle.model.specs.Data.{read, candidate, rate, weight, annuity}
-use Rattle.model.specs.Columns.{cap}
-use Rattle.tables.specs.Layout.{plan_entry}
-use Rattle.terms.proofs.Laws.{plus-on, Summed, summed-none, summed-more, summed-all}
-use borrow.Author.Rules.{rules}
+use Prim.Native.Nat.{◌-◌}
+use Rattle.terms.proofs.Laws.{plus-on, summed-none, summed-more, summed-all}
 use Rattle.terms.proofs.plants.annuity_sum.Goals as goal
 
 pub loop-g-init : goal.loop-g-init

@@ -1,12 +1,7 @@
 use mathlib.Core.Path.{◌∙◌}
-use Prim.Native.Nat.{◌*◌, ◌-◌}
+use Prim.Native.Nat.{◌-◌}
 use Rattle.capped.proofs.Laws.{both-cap}
-use Rattle.sums.specs.Sum.{sum, on}
-use Rattle.model.specs.Data.{read, candidate, rate, weight, annuity}
-use Rattle.model.specs.Columns.{cap}
-use Rattle.tables.specs.Layout.{plan_entry}
-use Rattle.terms.proofs.Laws.{Summed, summed-none, summed-more, summed-all}
-use borrow.Author.Rules.{rules}
+use Rattle.terms.proofs.Laws.{summed-none, summed-more, summed-all}
 use Rattle.terms.proofs.plants.capital_sum.Goals as goal
 
 pub loop-y-init : goal.loop-y-init

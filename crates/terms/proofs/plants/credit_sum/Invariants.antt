@@ -1,12 +1,10 @@
-use mathlib.Core.Path.{◌∙◌}
 use Prim.Native.Nat.{◌*◌, ◌-◌}
 use lib.Dec.{eqb}
 use Rattle.sums.specs.Sum.{on}
 use Rattle.model.specs.Data.{read, zone, cap_credit}
 use Rattle.model.specs.Columns.{cap}
 use Rattle.tables.specs.Layout.{plan_entry}
-use Rattle.terms.proofs.Laws.{plus-on, Summed, summed-none, summed-more, summed-all}
-use borrow.Author.Rules.{rules}
+use Rattle.terms.proofs.Laws.{Summed}
 use Rattle.terms.proofs.plants.credit_sum.Given as goal
 
 abbrev pub invariant-loop-g : goal.invariant-loop-g

@@ -1,11 +1,7 @@
-use Prim.Native.Nat.{◌+◌, ◌*◌, ◌-◌, ◌≤◌}
-use native.Mathlib.Nat.{mul-le-mul}
-use native.Mathlib.Omega.{arith}
+use Prim.Native.Nat.{◌+◌, ◌*◌, ◌-◌}
 use Rattle.model.specs.Counts.{season_length}
 use Rattle.model.specs.Data.{read, duration, most32}
-use Rattle.tables.proofs.Laws.{small}
-use Rattle.terms.proofs.Laws.{few-season-slices, season-slice-below, Added, added_none, added_more, added-all}
-use borrow.Author.Rules.{rules}
+use Rattle.terms.proofs.Laws.{Added}
 use Rattle.terms.proofs.plants.season_hours.Given as goal
 
 abbrev pub invariant-loop-i : goal.invariant-loop-i

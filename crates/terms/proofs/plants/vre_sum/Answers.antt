@@ -1,13 +1,7 @@
 use mathlib.Core.Path.{◌∙◌}
-use Prim.Native.Nat.{◌+◌, ◌*◌, ◌-◌}
-use lib.Dec.{eqb}
-use lib.ListN.{get_or}
-use Rattle.sums.specs.Sum.{on}
-use Rattle.model.specs.Counts.{slices_of}
-use Rattle.model.specs.Data.{read, zone, is_vre}
+use Prim.Native.Nat.{◌-◌}
 use Rattle.sums.proofs.Tests.{on_both}
-use Rattle.terms.proofs.Laws.{plus-on, Summed, summed-none, summed-more, summed-all}
-use borrow.Author.Rules.{rules}
+use Rattle.terms.proofs.Laws.{plus-on, summed-none, summed-more, summed-all}
 use Rattle.terms.proofs.plants.vre_sum.Goals as goal
 
 pub loop-g-init : goal.loop-g-init

@@ -1,13 +1,10 @@
-use mathlib.Core.Path.{◌∙◌}
 use Prim.Native.Nat.{◌+◌, ◌*◌, ◌-◌}
 use lib.Dec.{eqb}
 use lib.ListN.{get_or}
 use Rattle.sums.specs.Sum.{on}
 use Rattle.model.specs.Counts.{slices_of}
 use Rattle.model.specs.Data.{read, zone, is_vre}
-use Rattle.sums.proofs.Tests.{on_both}
-use Rattle.terms.proofs.Laws.{plus-on, Summed, summed-none, summed-more, summed-all}
-use borrow.Author.Rules.{rules}
+use Rattle.terms.proofs.Laws.{Summed}
 use Rattle.terms.proofs.plants.vre_sum.Given as goal
 
 abbrev pub invariant-loop-g : goal.invariant-loop-g

@@ -1,6 +1,5 @@
 use Rattle.model.specs.Data.{most32}
 use Rattle.tables.proofs.Laws.{small}
-use borrow.Author.Rules.{rules}
 use Rattle.terms.proofs.plants.year_weight.Goals as goal
 
 pub overflow_mul-result : goal.overflow_mul-result

@@ -2,7 +2,6 @@ use mathlib.Core.Path.{◌∙◌}
 use native.Mathlib.Omega.{arith}
 use borrow.Author.Tests.{lt-ltb, le-ltb}
 use Rattle.tables.proofs.Members.{of-earlier-year}
-use borrow.Author.Rules.{rules}
 use Rattle.terms.proofs.years.earlier.Goals as goal
 
 pub planned_in-requires : goal.planned_in-requires

@@ -1,12 +1,9 @@
 use mathlib.Core.Path.{◌∙◌}
-use Prim.Native.Nat.{◌*◌, ◌-◌}
+use Prim.Native.Nat.{◌-◌}
 use native.Mathlib.Omega.{arith}
 use Rattle.capped.proofs.Laws.{plus-cap}
-use Rattle.sums.specs.Index.{index}
-use Rattle.tables.specs.Layout.{plan_entry}
 use Rattle.tables.proofs.Members.{of-earlier-year}
-use Rattle.terms.proofs.Laws.{Summed, summed-none, summed-more, summed-all}
-use borrow.Author.Rules.{rules}
+use Rattle.terms.proofs.Laws.{summed-none, summed-more, summed-all}
 use Rattle.terms.proofs.years.over_years.Goals as goal
 
 pub loop-y-init : goal.loop-y-init

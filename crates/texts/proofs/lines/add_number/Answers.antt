@@ -2,7 +2,6 @@ use mathlib.Core.Path.{◌∙◌}
 use Rattle.texts.proofs.BufferLaws.{data-ready, plan-ready, scal-ready, dual-ready, data-added, plan-added, scal-added, dual-added, other-full}
 use mir.Facts.{to_z-of_z}
 use mir.Syntax.{w64}
-use borrow.Author.Rules.{rules}
 use Rattle.texts.proofs.lines.add_number.Goals as goal
 
 pub put_unsigned-requires : goal.put_unsigned-requires

@@ -1,5 +1,4 @@
 use Rattle.texts.proofs.LineLaws.{count-short, count-uneven, count-many, count-is}
-use borrow.Author.Rules.{rules}
 use Rattle.texts.proofs.lines.count_on.Goals as goal
 
 pub returns-then-bytes-lt-WORD_LENGTH : goal.returns-then-bytes-lt-WORD_LENGTH

@@ -1,6 +1,5 @@
 use borrow.Author.Tests.{le-leb, lt-leb, eq-eqb, ne_eqb}
 use Rattle.texts.specs.Format.{opens_with}
-use borrow.Author.Rules.{rules}
 use Rattle.texts.proofs.lines.opens.Goals as goal
 
 pub returns-then-line-lt-WORD_LENGTH : goal.returns-then-line-lt-WORD_LENGTH

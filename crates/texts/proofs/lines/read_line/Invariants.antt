@@ -1,11 +1,6 @@
-use mathlib.Core.Path.{◌≡◌, sym, ap, ◌∙◌}
 use Prim.Native.Nat.{◌-◌, ◌≤◌}
-use native.Mathlib.Omega.{arith}
-use borrow.Author.Rules.{rules}
-use Rattle.texts.specs.Buffers.{used_of, lists_in, line_in}
-use Rattle.texts.specs.Format.{count}
-use Rattle.texts.proofs.BufferLaws.{within_word, room-kept}
-use Rattle.texts.proofs.LineLaws.{counted, number-inside, line-none, line-over, line_reads, line-stops, Filled, filled_none, filled-ready, filled_more}
+use Rattle.texts.specs.Buffers.{used_of, lists_in}
+use Rattle.texts.proofs.LineLaws.{Filled}
 use Rattle.texts.proofs.lines.read_line.Given as goal
 
 abbrev pub invariant-loop-i : goal.invariant-loop-i

@@ -1,5 +1,4 @@
 use Rattle.texts.specs.Format.{word_of}
-use borrow.Author.Rules.{rules}
 use Rattle.texts.proofs.lines.word_of.Goals as goal
 
 pub returns-then-opens : goal.returns-then-opens

@@ -1,6 +1,5 @@
 use mathlib.Core.Path.{sym, ◌∙◌}
 use Rattle.verdicts.proofs.ColumnVerdicts.{either-over, second-over}
-use borrow.Author.Rules.{rules}
 use Rattle.verdicts.proofs.columns.off_scale.Goals as goal
 
 pub returns-then-is_over : goal.returns-then-is_over

@@ -1,7 +1,6 @@
 use mathlib.Core.Path.{refl, sym, ◌∙◌}
 use Rattle.compared.specs.declared.Order.TheVariants.{Less, Equal, Greater, Unknown}
 use Rattle.verdicts.proofs.ColumnVerdicts.{off-scale, on-scale}
-use borrow.Author.Rules.{rules}
 use Rattle.verdicts.proofs.columns.verdict.Goals as goal
 
 pub returns-then-off_scale : goal.returns-then-off_scale

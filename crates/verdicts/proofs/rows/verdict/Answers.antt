@@ -1,7 +1,6 @@
 use mathlib.Core.Path.{refl, sym, ◌∙◌}
 use Rattle.compared.specs.declared.Order.TheVariants.{Less, Equal, Greater, Unknown}
 use Rattle.verdicts.proofs.RowVerdicts.{above-over, below-over, neither-over}
-use borrow.Author.Rules.{rules}
 use Rattle.verdicts.proofs.rows.verdict.Goals as goal
 
 pub returns-then-is_over : goal.returns-then-is_over
