@@ -11,8 +11,8 @@ read_text-requires c = room-new
 pub answer_of-requires : goal.answer_of-requires
 answer_of-requires c =
     let r = c.read_text in
-    let k = r.auto.1 in
-    (room-kept room-new k.0 k.1.0 k.1.1.0 k.1.1.1.0, rw c.in-Whole.is at r.ensures.1)
+    let k = r.auto in
+    (room-kept room-new k.data k.plan k.scal k.dual, rw c.in-Whole.is at r.ensures.1)
 
 pub returns-in-FrameAt : goal.returns-in-FrameAt
 unfolding text_in certify_text
