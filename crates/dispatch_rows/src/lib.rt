@@ -5,7 +5,7 @@ ghost use Rattle.std.specs.Prelude.{◌≡◌, ℕ, ◌+◌, ◌*◌, ◌≤◌,
 ghost use Rattle.capped.specs.Cap.{cap};
 ghost use Rattle.model.specs.Counts.{slices_of, [g]};
 ghost use Rattle.model.specs.Data.{read};
-ghost use Rattle.model.specs.Columns.{cap as capColumn};
+ghost use Rattle.model.specs.Columns.{cap as cap_column};
 ghost use Rattle.model.specs.Families.{row};
 ghost use Rattle.tables.specs.Layout.{Counted, TablesAt, ColumnsAt, EntryAt, plan_entry};
 ghost use Rattle.parts.specs.Years.{YearPart, gen_kind, reserve_kind};
@@ -34,7 +34,7 @@ fn rate_of_capacity(
     g: usize,
 ) -> Sum
     requires { Counted c × (ColumnsAt plan.now columns_at.now c × ((y < c.years) × (g < c.plants))) }
-    ensures { result ≡ cap (rate * plan_entry c plan.now (capColumn y g)) }
+    ensures { result ≡ cap (rate * plan_entry c plan.now (cap_column y g)) }
 {
     capped::product(rate, planned_by_year_plant(plan, columns_at, c, CAP, y, g))
 }

@@ -7,7 +7,7 @@ use Rattle.sums.specs.Index.{Index, index}
 use Rattle.sums.specs.Linear.{◌·◌, value}
 use Rattle.model.specs.declared.Counts.{Counts}
 use Rattle.model.specs.Data.{Data, read}
-use Rattle.model.specs.Columns.{cap as capColumn}
+use Rattle.model.specs.Columns.{cap as cap_column}
 use Rattle.model.specs.Families.{Equation, equation, ramp}
 use Rattle.model.specs.Tests.{above, below, constant⁺, constant⁻, entries_fault}
 use Rattle.tables.specs.Layout.{TablesAt, ColumnsAt, plan_entry}
@@ -51,7 +51,7 @@ low falls s = high (not falls) s
 
 -- a ramp over the hour before of a plant's column of kind k: rate·cap bounds its fall (true) or its rise
 abbrev pub ramp_of : Data → ℕ → ℕ → Bool → ℕ → ℕ → ℕ → Equation
-ramp_of D rate k falls y g s = ramp D s (rate · capColumn y g) (index k y g 0 (high falls s)) (index k y g 0 (low falls s))
+ramp_of D rate k falls y g s = ramp D s (rate · cap_column y g) (index k y g 0 (high falls s)) (index k y g 0 (low falls s))
 
 -- two sums and a constant that adds and takes off, like terms brought together
 unfoldable pub sides_with : Sum → Sum → ℕ → Constant → Sides

@@ -67,10 +67,10 @@ unfoldable pub sums_words : RowFigures → List ℕ
 sums_words f = bytes ": its positive terms come to " ++ (amount_words f.above ++ (bytes ", its negative terms to " ++ amount_words f.below))
 
 unfoldable pub rule_words : Bool → List ℕ
-rule_words isEqual = cond isEqual (bytes ", and the two must be equal") (bytes ", and the first must not be less")
+rule_words is_equal = cond is_equal (bytes ", and the two must be equal") (bytes ", and the first must not be less")
 
 unfoldable pub multiplier_rule : Bool → List ℕ
-multiplier_rule isEqual = cond isEqual (bytes " and must be from -2^40 to 2^40") (bytes " and must be from 0 to 2^40")
+multiplier_rule is_equal = cond is_equal (bytes " and must be from -2^40 to 2^40") (bytes " and must be from 0 to 2^40")
 
 module _ (D : Data) where
   abbrev row : ℕ → Index

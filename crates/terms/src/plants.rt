@@ -4,7 +4,7 @@ ghost use Rattle.capped.specs.Cap.{cap};
 ghost use Rattle.sums.specs.Sum.{sum, on};
 ghost use Rattle.model.specs.Counts.{slices_of, season_length};
 ghost use Rattle.model.specs.Data.{read, zone, cap_credit, duration, rate, weight, annuity, candidate, is_vre};
-ghost use Rattle.model.specs.Columns.{cap as capColumn};
+ghost use Rattle.model.specs.Columns.{cap as cap_column};
 ghost use Rattle.tables.specs.Layout.{TablesAt, ColumnsAt, plan_entry};
 
 use capped::Sum;
@@ -63,7 +63,7 @@ pub fn credit_sum(
     z: u64,
 ) -> Sum
     requires { TablesAt «data».now tables_at.now c × (ColumnsAt plan.now columns_at.now c × (y < c.years)) }
-    ensures { result ≡ cap (sum c.plants (λ g. on (eqb (zone (read «data».now) g) z) (cap_credit (read «data».now) g * plan_entry c plan.now (capColumn y g)))) }
+    ensures { result ≡ cap (sum c.plants (λ g. on (eqb (zone (read «data».now) g) z) (cap_credit (read «data».now) g * plan_entry c plan.now (cap_column y g)))) }
 {
     let mut total = capped::zero();
     for g in 0..c.plants {
@@ -89,7 +89,7 @@ pub fn annuity_sum(
     y: usize,
 ) -> Sum
     requires { TablesAt «data».now tables_at.now c × (ColumnsAt plan.now columns_at.now c × (y < c.years)) }
-    ensures { result ≡ cap (sum c.plants (λ g. on (candidate (read «data».now) g) (rate (read «data».now) y * weight (read «data».now) y * annuity (read «data».now) y g * plan_entry c plan.now (capColumn y g)))) }
+    ensures { result ≡ cap (sum c.plants (λ g. on (candidate (read «data».now) g) (rate (read «data».now) y * weight (read «data».now) y * annuity (read «data».now) y g * plan_entry c plan.now (cap_column y g)))) }
 {
     let share = year_weight(data, tables_at, c, y);
     let mut total = capped::zero();
@@ -124,7 +124,7 @@ pub fn capital_sum(
     c: Counts,
 ) -> Sum
     requires { TablesAt «data».now tables_at.now c × ColumnsAt plan.now columns_at.now c }
-    ensures { result ≡ cap (sum c.years (λ y. sum c.plants (λ g. on (candidate (read «data».now) g) (rate (read «data».now) y * weight (read «data».now) y * annuity (read «data».now) y g * plan_entry c plan.now (capColumn y g))))) }
+    ensures { result ≡ cap (sum c.years (λ y. sum c.plants (λ g. on (candidate (read «data».now) g) (rate (read «data».now) y * weight (read «data».now) y * annuity (read «data».now) y g * plan_entry c plan.now (cap_column y g))))) }
 {
     let mut total = capped::zero();
     for y in 0..c.years {

@@ -180,37 +180,37 @@ module _ {l : List ℕ} {v : ℕ} (scal : ScalLine l v) where
 
   module _ (b : ℕ) (u : List ℕ) where
     -- the last line's bytes, then the SCAL line's
-    abbrev whole-line : List ℕ
-    whole-line = b ∷ (u ++ l)
+    abbrev whole_line : List ℕ
+    whole_line = b ∷ (u ++ l)
 
-    length-is : length whole-line ≡ length u + 14
+    length-is : length whole_line ≡ length u + 14
     length-is = omega (arith, length-append u l, scal.long)
 
-    byte-is : (i : ℕ) → get_or whole-line (suc (length u + i)) 0 ≡ get_or l i 0
+    byte-is : (i : ℕ) → get_or whole_line (suc (length u + i)) 0 ≡ get_or l i 0
     byte-is i = get_or-append-add u l i 0
 
     -- a number of 8 digits or more of which the eighth would be no digit
-    stops : {A : Type 0} (value : ℕ → A) (w i n j : ℕ) → 7 < w → i < n → word_length + i * (w + 1) + 1 + 7 ≡ suc (length u + j) → digit (get_or l j 0) ≡ NoNumber → numbers value w whole-line n ≡ none
+    stops : {A : Type 0} (value : ℕ → A) (w i n j : ℕ) → 7 < w → i < n → word_length + i * (w + 1) + 1 + 7 ≡ suc (length u + j) → digit (get_or l j 0) ≡ NoNumber → numbers value w whole_line n ≡ none
     stops value w i n j wide h e f =
-        numbers-none value w whole-line i n h (number-stop whole-line (word_length + i * (w + 1)) 7 w wide (rw (e, byte-is j) f))
+        numbers-none value w whole_line i n h (number-stop whole_line (word_length + i * (w + 1)) 7 w wide (rw (e, byte-is j) f))
 
     -- of 8 digits the last number is that of the SCAL line, and the one before it ends in the L
-    short-numbers : {A : Type 0} (value : ℕ → A) (n : ℕ) → 1 ≤ n → Counted (length whole-line) digits n → numbers value digits whole-line n ≡ none
+    short-numbers : {A : Type 0} (value : ℕ → A) (n : ℕ) → 1 ≤ n → Counted (length whole_line) digits n → numbers value digits whole_line n ≡ none
     short-numbers value n h c = stops value digits (n - 2) n 3 (omega arith) (omega (arith, c.long, length-is)) (omega (arith, c.long, length-is)) scal.letter
 
     -- of 16 digits the last number has the space among its digits
-    long-numbers : {A : Type 0} (value : ℕ → A) (n : ℕ) → 1 ≤ n → Counted (length whole-line) dual_digits n → numbers value dual_digits whole-line n ≡ none
+    long-numbers : {A : Type 0} (value : ℕ → A) (n : ℕ) → 1 ≤ n → Counted (length whole_line) dual_digits n → numbers value dual_digits whole_line n ≡ none
     long-numbers value n h c = stops value dual_digits (n - 1) n 4 (omega arith) (omega (arith, h)) (omega (arith, h, c.long, length-is)) scal.parted
 
-    no_line : (s : Lists) → add_line whole-line s ≡ none
+    no_line : (s : Lists) → add_line whole_line s ≡ none
     unfolding add_line line_of
-    no_line s = go (word_of whole-line)
+    no_line s = go (word_of whole_line)
       where
-        go : (w : Word) → line_of w whole-line s ≡ none
-        go Data = rw (join-none plain digits whole-line most_data s.of_data (short-numbers plain))
-        go Plan = rw (join-none plain digits whole-line most_plan s.of_plan (short-numbers plain))
-        go Scal = rw (join-none plain digits whole-line most_scal s.of_scal (short-numbers plain))
-        go Dual = rw (join-none signed dual_digits whole-line most_dual s.of_dual (long-numbers signed))
+        go : (w : Word) → line_of w whole_line s ≡ none
+        go Data = rw (join-none plain digits whole_line most_data s.of_data (short-numbers plain))
+        go Plan = rw (join-none plain digits whole_line most_plan s.of_plan (short-numbers plain))
+        go Scal = rw (join-none plain digits whole_line most_scal s.of_scal (short-numbers plain))
+        go Dual = rw (join-none signed dual_digits whole_line most_dual s.of_dual (long-numbers signed))
         go Other = refl
 
   -- the lines of a text with it: the last of them, or the end of the last
