@@ -49,11 +49,10 @@ pub struct Plan<'a> {
 }
 
 // A plan beside the data that it is a plan for.
-#[derive(Clone, Copy)]
 pub struct Case<'a> {
-    pub tables: &'a Tables<'a>,
-    pub plan: &'a Plan<'a>,
-    pub ghost same_counts: { plan.now.counts ≡ tables.now.counts },
+    pub tables: Tables<'a>,
+    pub plan: Plan<'a>,
+    pub ghost same_counts: { plan.counts ≡ tables.counts },
 }
 
 // Data whose entries are all in range: it passed refusal 3 too.
