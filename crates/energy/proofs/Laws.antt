@@ -8,8 +8,7 @@ use native.Mathlib.Numerals.{add-one}
 use native.Mathlib.Omega.{arith}
 use lib.ListN.{get_or}
 use lib.Dec.{eqb}
-use Rattle.capped.specs.declared.Sum.{Sum}
-use Rattle.capped.specs.Cap.{cap, plus, times}
+use Rattle.capped.specs.Cap.{cap, plus, times, Sum}
 use Rattle.capped.proofs.Laws.{plus-cap, both-cap, times-cap}
 use Rattle.sums.specs.Sum.{sum, on}
 use Rattle.sums.proofs.Tests.{on_both}

@@ -1,7 +1,6 @@
 -- The plants' energy Σ Dur·gen by year and season, in a list of kept sums, and sums of them.
 use Rattle.std.specs.Prelude.{◌≡◌, Bool, true, false, List, [], ℕ, zero, suc, ◌+◌, ◌*◌, ◌<◌, length, get_or}
-use Rattle.capped.specs.declared.Sum.{Sum}
-use Rattle.capped.specs.Cap.{cap, both, times, kept_sum}
+use Rattle.capped.specs.Cap.{cap, both, times, kept_sum, Sum}
 use Rattle.sums.specs.Index.{Index}
 use Rattle.model.specs.declared.Counts.{Counts}
 use Rattle.model.specs.Data.{Data, duration}

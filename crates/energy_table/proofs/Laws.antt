@@ -7,8 +7,7 @@ use native.Mathlib.Nat.{eq-or-lt_of_le}
 use native.Mathlib.Omega.{arith}
 use lib.ListN.{length, get_or, set, length-set}
 use lib.Seq.{get_or-set_same, get_or-set_other}
-use Rattle.capped.specs.declared.Sum.{Sum}
-use Rattle.capped.specs.Cap.{cap, kept_as, kept_sum}
+use Rattle.capped.specs.Cap.{cap, kept_as, kept_sum, Sum}
 use Rattle.capped.proofs.Laws.{kept-cap}
 use Rattle.sums.proofs.Sums.{sum-cong}
 use Rattle.sums.proofs.Numbering.{below-product, digits}

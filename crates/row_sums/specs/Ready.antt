@@ -1,7 +1,6 @@
 -- What the row functions work on and answer.
 use Rattle.std.specs.Prelude.{◌≡◌, Bool, true, false, not, List, ℕ, ◌*◌, ◌-◌}
-use Rattle.capped.specs.declared.Sum.{Sum}
-use Rattle.capped.specs.Cap.{cap, plus}
+use Rattle.capped.specs.Cap.{cap, plus, Sum}
 use Rattle.sums.specs.Span.{fine}
 use Rattle.sums.specs.Index.{Index, index}
 use Rattle.sums.specs.Linear.{◌·◌, value}

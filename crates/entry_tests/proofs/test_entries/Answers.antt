@@ -1,3 +1,4 @@
+use Rattle.model.specs.Calls.{outcome}
 use mathlib.Core.Path.{refl, sym, ap, ◌∙◌}
 use Prim.Native.Nat.{◌-◌, ◌<◌}
 use lib.ListN.{length}
@@ -5,7 +6,7 @@ use native.Mathlib.Omega.{arith}
 use Rattle.sums.proofs.Spans.{upto-stop}
 use Rattle.model.specs.Data.{read}
 use Rattle.model.specs.Tests.{unless}
-use Rattle.tables.specs.Layout.{table_sets, outcome}
+use Rattle.tables.specs.Layout.{table_sets}
 use Rattle.tables.proofs.Laws.{start-zero}
 use Rattle.tables.proofs.Walk.{begun, turned, ended}
 use Rattle.entry_tests.proofs.Entries.{all-tables, next-table, box-faults, place-below, tested}

@@ -1,7 +1,7 @@
+use Rattle.capped.specs.Cap.{Sum}
 use mathlib.Core.Path.{◌≡◌}
 use mathlib.Core.List.{List}
 use Prim.Native.Nat.{ℕ, ◌-◌, ◌≤◌}
-use Rattle.capped.specs.declared.Sum.{Sum}
 use Rattle.model.specs.declared.Counts.{Counts}
 use Rattle.model.specs.Data.{read, emission}
 use Rattle.energy.specs.Energies.{all_of, year_energy}

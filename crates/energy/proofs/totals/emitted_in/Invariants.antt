@@ -1,9 +1,9 @@
+use Rattle.capped.specs.Cap.{Sum}
 use mathlib.Core.Path.{◌≡◌}
 use mathlib.Core.Bool.{Bool}
 use mathlib.Core.List.{List}
 use Prim.Native.Nat.{ℕ, ◌-◌, ◌≤◌}
 use lib.Dec.{eqb}
-use Rattle.capped.specs.declared.Sum.{Sum}
 use Rattle.model.specs.declared.Counts.{Counts}
 use Rattle.model.specs.Data.{read, zone, emission}
 use Rattle.energy.specs.Energies.{all_if, year_energy}
