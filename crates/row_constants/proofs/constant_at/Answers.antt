@@ -7,73 +7,73 @@ pub balance_constant-requires : goal.balance_constant-requires
 unfolding row_boxes
 balance_constant-requires c =
     let p = c.requires in
-    let m = member-at _ 0 c.in-0.is p.1.1 in (p.0, (p.1.0, (m.1, (m.2, m.4))))
+    let m = member-at _ 0 c.in-0.is c.requires in (c.args.tested.now.tables.now.laid_out, (c.args.tested.now.tested, (m.1, (m.2, m.4))))
 
 pub transfer_constant-requires : goal.transfer_constant-requires
 unfolding row_boxes
 transfer_constant-requires c =
     let p = c.requires in
-    let m = member-at _ 1 c.in-1.is p.1.1 in (p.0, (m.1, (m.2, (m.3, m.4))))
+    let m = member-at _ 1 c.in-1.is c.requires in (c.args.tested.now.tables.now.laid_out, (m.1, (m.2, (m.3, m.4))))
 
 pub spinning_constant-requires : goal.spinning_constant-requires
 unfolding row_boxes
 spinning_constant-requires c =
     let p = c.requires in
-    let m = member-at _ 2 c.in-2.is p.1.1 in (p.0, (m.1, (m.2, m.4)))
+    let m = member-at _ 2 c.in-2.is c.requires in (c.args.tested.now.tables.now.laid_out, (m.1, (m.2, m.4)))
 
 pub firm_constant-requires : goal.firm_constant-requires
 unfolding row_boxes
 firm_constant-requires c =
     let p = c.requires in
-    let m = member-at _ 3 c.in-3.is p.1.1 in (p.0, (p.1.0, (m.1, m.2)))
+    let m = member-at _ 3 c.in-3.is c.requires in (c.args.tested.now.tables.now.laid_out, (c.args.tested.now.tested, (m.1, m.2)))
 
 pub stock_constant-requires : goal.stock_constant-requires
 unfolding row_boxes
 stock_constant-requires c =
     let p = c.requires in
-    let m = member-at _ 11 c.in-11.is p.1.1 in (p.0, (m.1, m.2))
+    let m = member-at _ 11 c.in-11.is c.requires in (c.args.tested.now.tables.now.laid_out, (m.1, m.2))
 
 pub new_capacity_constant-requires : goal.new_capacity_constant-requires
 unfolding row_boxes
 new_capacity_constant-requires c =
     let p = c.requires in
-    let m = member-at _ 14 c.in-14.is p.1.1 in (p.0, m.2)
+    let m = member-at _ 14 c.in-14.is c.requires in (c.args.tested.now.tables.now.laid_out, m.2)
 
 pub yearly_build_constant-requires : goal.yearly_build_constant-requires
 unfolding row_boxes
 yearly_build_constant-requires c =
     let p = c.requires in
-    let m = member-at _ 15 c.in-15.is p.1.1 in (p.0, (m.1, m.2))
+    let m = member-at _ 15 c.in-15.is c.requires in (c.args.tested.now.tables.now.laid_out, (m.1, m.2))
 
 pub fuel_use_constant-requires : goal.fuel_use_constant-requires
 unfolding row_boxes
 fuel_use_constant-requires c =
     let p = c.requires in
-    let m = member-at _ 16 c.in-16.is p.1.1 in (p.0, (m.1, m.3))
+    let m = member-at _ 16 c.in-16.is c.requires in (c.args.tested.now.tables.now.laid_out, (m.1, m.3))
 
 pub zone_emission_constant-requires : goal.zone_emission_constant-requires
 unfolding row_boxes
 zone_emission_constant-requires c =
     let p = c.requires in
-    let m = member-at _ 18 c.in-18.is p.1.1 in (p.0, (m.1, m.2))
+    let m = member-at _ 18 c.in-18.is c.requires in (c.args.tested.now.tables.now.laid_out, (m.1, m.2))
 
 pub system_emission_constant-requires : goal.system_emission_constant-requires
 unfolding row_boxes
 system_emission_constant-requires c =
     let p = c.requires in
-    let m = member-at _ 19 c.in-19.is p.1.1 in (p.0, m.1)
+    let m = member-at _ 19 c.in-19.is c.requires in (c.args.tested.now.tables.now.laid_out, m.1)
 
 pub level_limit_constant-requires : goal.level_limit_constant-requires
 unfolding row_boxes
 level_limit_constant-requires c =
     let p = c.requires in
-    let m = member-at _ 24 c.in-24.is p.1.1 in (p.0, m.2)
+    let m = member-at _ 24 c.in-24.is c.requires in (c.args.tested.now.tables.now.laid_out, m.2)
 
 pub new_lines_constant-requires : goal.new_lines_constant-requires
 unfolding row_boxes
 new_lines_constant-requires c =
     let p = c.requires in
-    let m = member-at _ 26 c.in-26.is p.1.1 in (p.0, (m.2, m.3))
+    let m = member-at _ 26 c.in-26.is c.requires in (c.args.tested.now.tables.now.laid_out, (m.2, m.3))
 
 pub returns-in-0 : goal.returns-in-0
 unfolding constant_of
@@ -129,4 +129,4 @@ returns-in-26 c = rw c.in-26.is c.new_lines_constant.ensures
 
 pub returns-in_default : goal.returns-in_default
 unfolding row_boxes
-returns-in_default c = let l = c.requires.1.1.0 in without _ _ _ _ _ _ l (without-arm _ l c.in_default.in_default-own.rest)
+returns-in_default c = let l = c.requires.0 in without _ _ _ _ _ _ l (without-arm _ l c.in_default.in_default-own.rest)

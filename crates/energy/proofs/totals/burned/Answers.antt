@@ -12,16 +12,16 @@ unfolding all_if
 loop-g-init c = (search rules, c.zero-total.ensures)
 
 pub by_plant-requires : goal.by_plant-requires
-by_plant-requires c = plant-read c.requires.0 (omega arith) refl c.loop-g-test.true
+by_plant-requires c = plant-read c.args.tables.now.laid_out (omega arith) refl c.loop-g-test.true
 
 pub by_plant-requires-in-loop-g : goal.by_plant-requires-in-loop-g
-by_plant-requires-in-loop-g c = plant-read c.requires.0 (omega arith) refl c.loop-g-test.true
+by_plant-requires-in-loop-g c = plant-read c.args.tables.now.laid_out (omega arith) refl c.loop-g-test.true
 
 pub by_plant-requires-in-loop-g-2 : goal.by_plant-requires-in-loop-g-2
-by_plant-requires-in-loop-g-2 c = plant-read c.requires.0 (omega arith) refl c.loop-g-test.true
+by_plant-requires-in-loop-g-2 c = plant-read c.args.tables.now.laid_out (omega arith) refl c.loop-g-test.true
 
 pub add_energy_if-total-requires : goal.add_energy_if-total-requires
-add_energy_if-total-requires c = let p = c.requires in (p.0.counted, (p.1.0, (p.1.1, c.loop-g-test.true)))
+add_energy_if-total-requires c = let p = c.requires in (c.args.tables.now.laid_out.counted, (c.requires.0, (c.requires.1, c.loop-g-test.true)))
 
 pub loop-g-preserved : goal.loop-g-preserved
 loop-g-preserved c =

@@ -12,7 +12,7 @@ abbrev pub emitted_by : List ℕ → Counts → List (List ℕ) → ℕ → ℕ 
 emitted_by «data» c energy y g = year_energy c energy (emission (read «data») g) y g
 
 abbrev pub invariant-loop-g : goal.invariant-loop-g
-invariant-loop-g l = (l.g ≤ l.c.plants) × (l.total ≡ all_of l.g (emitted_by l.«data» l.c l.energy l.y))
+invariant-loop-g l = (l.g ≤ l.tables.counts.plants) × (l.total ≡ all_of l.g (emitted_by l.tables.list.now l.tables.counts l.energy l.y))
 
 abbrev pub decreases-loop-g : goal.decreases-loop-g
-decreases-loop-g l = l.c.plants - l.g
+decreases-loop-g l = l.tables.counts.plants - l.g

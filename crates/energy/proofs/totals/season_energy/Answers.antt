@@ -11,25 +11,25 @@ use Rattle.energy.proofs.Laws.{more, season-is, slice-below, few-season-slices, 
 use Rattle.energy.proofs.totals.season_energy.Goals as goal
 
 pub overflow_mul-p : goal.overflow_mul-p
-overflow_mul-p c = let p = c.requires in omega (arith, few-season-slices p.0.counted p.1.1.1)
+overflow_mul-p c = let p = c.requires in omega (arith, few-season-slices c.args.tables.now.laid_out.counted c.requires.1.1)
 
 pub overflow_mul-from : goal.overflow_mul-from
-overflow_mul-from c = let p = c.requires in omega (arith, few-season-slices p.0.counted p.1.1.1)
+overflow_mul-from c = let p = c.requires in omega (arith, few-season-slices c.args.tables.now.laid_out.counted c.requires.1.1)
 
 pub loop-i-init : goal.loop-i-init
 unfolding sum
 loop-i-init c =
     let p = c.requires in
-    let few = few-season-slices p.0.counted p.1.1.1 in
+    let few = few-season-slices c.args.tables.now.laid_out.counted c.requires.1.1 in
     (c.zero-total.ensures, search rules, few.0, few.1)
 
 pub by_slice-hours-requires : goal.by_slice-hours-requires
-by_slice-hours-requires c = let p = c.requires in duration-read p.1.1.1 c.loop-i-test.true p.0
+by_slice-hours-requires c = let p = c.requires in duration-read c.requires.1.1 c.loop-i-test.true c.args.tables.now.laid_out
 
 pub part_at-requires : goal.part_at-requires
 part_at-requires c =
     let p = c.requires in
-    (p.0.counted, (p.1.0, (p.1.1.0, slice-below p.0.counted p.1.1.1 c.loop-i-test.true)))
+    (c.args.tables.now.laid_out.counted, (c.requires.0, (c.requires.1.0, slice-below c.args.tables.now.laid_out.counted c.requires.1.1 c.loop-i-test.true)))
 
 pub loop-i-preserved : goal.loop-i-preserved
 loop-i-preserved c =
@@ -49,4 +49,4 @@ returns c =
     let a = c.args in
     let D = read a.«data».now in
     l.invariant.0
-    ∙ ap cap (season-is D a.q (λ s. duration D s * get_or a.outputs.now (a.g * slices_of a.c + s) 0) c.requires.0.counts (omega arith))
+    ∙ ap cap (season-is D a.q (λ s. duration D s * get_or a.outputs.now (a.g * slices_of a.c + s) 0) c.args.tables.now.laid_out.counts (omega arith))
