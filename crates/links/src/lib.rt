@@ -10,8 +10,8 @@ ghost use Rattle.model.specs.Columns.{trans, total_lines};
 ghost use Rattle.links.specs.Links.{link};
 ghost use Rattle.tables.specs.Lists.{data_of, entry_of};
 
-use tables::lists::{Case, Plan};
 use capped::Sum;
+use tables::lists::{Case, Plan};
 use tables::names::{LOSS, MW_PER_LINE, TOTAL_LINES, TRANS};
 
 // Σ (1000 − Loss[u,z])·trans[u,z] over the other zones u: what zone z receives.

@@ -23,13 +23,7 @@ fn peak_of(demand: &[u32]) -> u32
     let half = demand.len() / 2;
     let earlier = peak_of(&demand[0..half]);
     let later = peak_of(&demand[half..]);
-    larger(earlier, later)
-}
-
-fn larger(a: u32, b: u32) -> u32
-    ensures { result ≡ max a b }
-{
-    if a < b { b } else { a }
+    earlier.max(later)
 }
 
 // The largest Demand[y,z,·].
