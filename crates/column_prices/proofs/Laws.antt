@@ -5,8 +5,7 @@ use mathlib.Core.List.{List, [], ◌∷◌}
 use Prim.Native.Nat.{ℕ, ◌*◌, ◌<◌}
 use native.Mathlib.Nat.{mul-one, mul_comm, mul_left_comm}
 use native.Mathlib.Omega.{arith}
-use Rattle.capped.specs.declared.Sum.{Sum}
-use Rattle.capped.specs.Cap.{cap, times}
+use Rattle.capped.specs.Cap.{cap, times, Sum}
 use Rattle.capped.proofs.Laws.{times-cap}
 use Rattle.sums.specs.declared.Place.{Place}
 use Rattle.sums.specs.Index.{index, index_of, box, box_of}

@@ -1,11 +1,11 @@
 // The two sums of a column, made term by term.
 ghost use Rattle.std.specs.Prelude.{◌≡◌, true};
 ghost use Rattle.sums.specs.Index.{index};
-ghost use Rattle.column_terms.specs.Pairs.{no_terms, joined, added, taken, added_if, taken_if, row_multiplier, Row};
+ghost use Rattle.column_terms.specs.Pairs.{no_terms, joined, added, taken, added_if, taken_if, row_multiplier};
+ghost use Rattle.column_terms.specs.Pairs.{RowAt};
 
 use crate::Pair;
-use duals::{Multiplier, RowStarts, multiplier_at};
-use model::Counts;
+use duals::{Multiplier, Multipliers};
 use sums::Place;
 
 pub fn none() -> Pair
@@ -56,114 +56,58 @@ pub fn take(p: Pair, a: u64, m: Multiplier) -> Pair
 
 // The term of row y, i, j, s of family k, in which the column has the coefficient a. Family and indices are not one Place: a Place is handed over in
 // memory, where inlining no longer sees that the family is a constant; certify took 1.7 times as long.
-pub fn add_row(
-    p: Pair,
-    a: u64,
-    ms: &[i64],
-    rows_at: &RowStarts,
-    c: Counts,
-    k: usize,
-    y: usize,
-    i: usize,
-    j: usize,
-    s: usize,
-) -> Pair
-    requires { Row ms.now rows_at.now c k y i j s }
-    ensures { result ≡ added p a (row_multiplier c ms.now (index k y i j s)) }
+pub fn add_row(p: Pair, a: u64, multipliers: &Multipliers, k: usize, y: usize, i: usize, j: usize, s: usize) -> Pair
+    requires { RowAt multipliers.now.counts k y i j s }
+    ensures { result ≡ added p a (row_multiplier multipliers.now.counts multipliers.now.list.now (index k y i j s)) }
 {
     add(
         p,
         a,
-        multiplier_at(
-            ms,
-            rows_at,
-            c,
-            Place {
+        multipliers.at(Place {
                 kind: k,
                 year: y,
                 first: i,
                 second: j,
                 slice: s,
-            },
-        ),
+            }),
     )
 }
 
 // The term of a row in which the column has the coefficient −a.
-pub fn take_row(
-    p: Pair,
-    a: u64,
-    ms: &[i64],
-    rows_at: &RowStarts,
-    c: Counts,
-    k: usize,
-    y: usize,
-    i: usize,
-    j: usize,
-    s: usize,
-) -> Pair
-    requires { Row ms.now rows_at.now c k y i j s }
-    ensures { result ≡ taken p a (row_multiplier c ms.now (index k y i j s)) }
+pub fn take_row(p: Pair, a: u64, multipliers: &Multipliers, k: usize, y: usize, i: usize, j: usize, s: usize) -> Pair
+    requires { RowAt multipliers.now.counts k y i j s }
+    ensures { result ≡ taken p a (row_multiplier multipliers.now.counts multipliers.now.list.now (index k y i j s)) }
 {
     take(
         p,
         a,
-        multiplier_at(
-            ms,
-            rows_at,
-            c,
-            Place {
+        multipliers.at(Place {
                 kind: k,
                 year: y,
                 first: i,
                 second: j,
                 slice: s,
-            },
-        ),
+            }),
     )
 }
 
 // The same where a test holds; where it does not, there need not be such a row.
-pub fn add_row_if(
-    on: bool,
-    p: Pair,
-    a: u64,
-    ms: &[i64],
-    rows_at: &RowStarts,
-    c: Counts,
-    k: usize,
-    y: usize,
-    i: usize,
-    j: usize,
-    s: usize,
-) -> Pair
-    requires { on ≡ true → Row ms.now rows_at.now c k y i j s }
-    ensures { result ≡ added_if on p a (row_multiplier c ms.now (index k y i j s)) }
+pub fn add_row_if(on: bool, p: Pair, a: u64, multipliers: &Multipliers, k: usize, y: usize, i: usize, j: usize, s: usize) -> Pair
+    requires { on ≡ true → RowAt multipliers.now.counts k y i j s }
+    ensures { result ≡ added_if on p a (row_multiplier multipliers.now.counts multipliers.now.list.now (index k y i j s)) }
 {
     if on {
-        return add_row(p, a, ms, rows_at, c, k, y, i, j, s);
+        return add_row(p, a, multipliers, k, y, i, j, s);
     }
     p
 }
 
-pub fn take_row_if(
-    on: bool,
-    p: Pair,
-    a: u64,
-    ms: &[i64],
-    rows_at: &RowStarts,
-    c: Counts,
-    k: usize,
-    y: usize,
-    i: usize,
-    j: usize,
-    s: usize,
-) -> Pair
-    requires { on ≡ true → Row ms.now rows_at.now c k y i j s }
-    ensures { result ≡ taken_if on p a (row_multiplier c ms.now (index k y i j s)) }
+pub fn take_row_if(on: bool, p: Pair, a: u64, multipliers: &Multipliers, k: usize, y: usize, i: usize, j: usize, s: usize) -> Pair
+    requires { on ≡ true → RowAt multipliers.now.counts k y i j s }
+    ensures { result ≡ taken_if on p a (row_multiplier multipliers.now.counts multipliers.now.list.now (index k y i j s)) }
 {
     if on {
-        return take_row(p, a, ms, rows_at, c, k, y, i, j, s);
+        return take_row(p, a, multipliers, k, y, i, j, s);
     }
     p
 }

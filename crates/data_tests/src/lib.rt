@@ -3,15 +3,17 @@
 
 ghost use Rattle.std.specs.Prelude.{◌≡◌, ◌&&◌, ◌≤◌, ◌<◌, length, get_or};
 ghost use Rattle.sums.specs.Span.{fine, or_else};
-ghost use Rattle.model.specs.Data.{counts_of, most_counts, read, is_battery, is_vre};
+ghost use Rattle.model.specs.Data.{counts_of, most_counts, is_battery, is_vre};
 ghost use Rattle.model.specs.Tests.{head_fault, counts_fault, length_fault, entries_fault, storage_fault, data_fault};
-ghost use Rattle.tables.specs.Layout.{outcome, TablesAt};
+ghost use Rattle.model.specs.Calls.{outcome};
 
+ghost use Rattle.tables.specs.Lists.{data_of};
+
+use tables::lists::Tables;
 use entry_tests::test_entries;
-use model::{Counts, Outcome, Refusal, TABLE_COUNT};
+use model::{TABLE_COUNT, Counts, Refusal};
 use ranges::{Range, in_range};
-use tables::plants::{is_battery, is_vre};
-use tables::starts::{Starts, table_starts};
+use tables::starts::table_starts;
 
 // The largest that each count may be.
 const MOST_COUNTS: [u32; 7] = [8, 32, 8, 4, 4, 24, 10];
@@ -46,7 +48,7 @@ pub fn counts_of(data: &[u32]) -> Counts
 }
 
 // Refusal 1.
-fn test_counts(data: &[u32]) -> Outcome
+fn test_counts(data: &[u32]) -> Result<(), Refusal>
     requires { 7 ≤ length «data».now }
     ensures { result ≡ outcome (counts_fault «data».now) }
 {
@@ -56,84 +58,82 @@ fn test_counts(data: &[u32]) -> Outcome
             most: most_count(i),
         };
         if !in_range(r, data[i]) {
-            return Outcome::Fails(Refusal::Shape(i));
+            return Err(Refusal::Shape(i));
         }
     }
-    Outcome::Fine
+    Ok(())
 }
 
 // Refusal 2, the length that the counts give.
-fn test_length(data: &[u32]) -> Outcome
+fn test_length(data: &[u32]) -> Result<(), Refusal>
     requires { (7 ≤ length «data».now) × (counts_fault «data».now ≡ fine) }
     ensures { result ≡ outcome (length_fault «data».now) }
 {
     let tables_at = table_starts(counts_of(data));
     let whole = tables_at[TABLE_COUNT];
     if data.len() != whole {
-        return Outcome::Fails(Refusal::DataLength(whole));
+        return Err(Refusal::DataLength(whole));
     }
-    Outcome::Fine
+    Ok(())
 }
 
 // Refusals 1 and 2. With under seven numbers there are no counts to test.
-pub fn test_head(data: &[u32]) -> Outcome
+pub fn test_head(data: &[u32]) -> Result<(), Refusal>
     ensures { result ≡ outcome (or_else (head_fault «data».now) (or_else (counts_fault «data».now) (length_fault «data».now))) }
 {
     if data.len() < 7 {
-        return Outcome::Fails(Refusal::DataLength(7));
+        return Err(Refusal::DataLength(7));
     }
     let counts = test_counts(data);
     match counts {
-        Outcome::Fails(_) => return counts,
-        Outcome::Fine => {}
+        Err(_) => return counts,
+        Ok(()) => {}
     }
     test_length(data)
 }
 
-fn is_vre_battery(data: &[u32], tables_at: &Starts, c: Counts, g: usize) -> bool
-    requires { TablesAt «data».now tables_at.now c × (g < c.plants) }
-    ensures { result ≡ (is_battery (read «data».now) g && is_vre (read «data».now) g) }
+fn is_vre_battery(tables: &Tables, g: usize) -> bool
+    requires { g < tables.now.counts.plants }
+    ensures { result ≡ (is_battery (data_of tables.now) g && is_vre (data_of tables.now) g) }
 {
-    if is_battery(data, tables_at, c, g) {
-        return is_vre(data, tables_at, c, g);
+    if tables.is_battery(g) {
+        return tables.is_vre(g);
     }
     false
 }
 
 // Refusal 16: the lowest plant that is a battery and has VRE set.
-fn test_storage(data: &[u32], tables_at: &Starts, c: Counts) -> Outcome
-    requires { TablesAt «data».now tables_at.now c }
-    ensures { result ≡ outcome (storage_fault (read «data».now)) }
+fn test_storage(tables: &Tables) -> Result<(), Refusal>
+    ensures { result ≡ outcome (storage_fault (data_of tables.now)) }
 {
-    for g in 0..c.plants {
-        if is_vre_battery(data, tables_at, c, g) {
-            return Outcome::Fails(Refusal::Storage(g));
+    for g in 0..tables.counts.plants {
+        if is_vre_battery(tables, g) {
+            return Err(Refusal::Storage(g));
         }
     }
-    Outcome::Fine
+    Ok(())
 }
 
 // Refusals 3 and 16: all entries before any battery.
-fn test_tables(data: &[u32], tables_at: &Starts, c: Counts) -> Outcome
-    requires { TablesAt «data».now tables_at.now c }
-    ensures { result ≡ outcome (or_else (entries_fault (read «data».now)) (storage_fault (read «data».now))) }
+fn test_tables(tables: &Tables) -> Result<(), Refusal>
+    ensures { result ≡ outcome (or_else (entries_fault (data_of tables.now)) (storage_fault (data_of tables.now))) }
 {
-    let entries = test_entries(data, tables_at, c);
+    let entries = test_entries(tables);
     match entries {
-        Outcome::Fails(_) => return entries,
-        Outcome::Fine => {}
+        Err(_) => return entries,
+        Ok(()) => {}
     }
-    test_storage(data, tables_at, c)
+    test_storage(tables)
 }
 
 // All of it.
-pub fn test_data(data: &[u32]) -> Outcome
+pub fn test_data(data: &[u32]) -> Result<(), Refusal>
     ensures { result ≡ outcome (data_fault «data».now) }
 {
     let head = test_head(data);
     match head {
-        Outcome::Fails(_) => return head,
-        Outcome::Fine => {}
+        Err(_) => return head,
+        Ok(()) => {}
     }
     let c = counts_of(data);
     let tables_at = table_starts(c);

@@ -6,8 +6,7 @@ use Prim.Native.Nat.{ℕ, ◌+◌, ◌*◌, ◌<◌}
 use native.Mathlib.Nat.{zero-add}
 use native.Mathlib.Omega.{arith}
 use lib.ListN.{get_or}
-use Rattle.capped.specs.declared.Sum.{Sum}
-use Rattle.capped.specs.Cap.{cap, plus}
+use Rattle.capped.specs.Cap.{cap, plus, Sum}
 use Rattle.capped.proofs.Laws.{plus-cap}
 use Rattle.sums.specs.Index.{index}
 use Rattle.model.specs.declared.Counts.{Counts}

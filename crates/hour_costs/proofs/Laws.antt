@@ -6,8 +6,7 @@ use native.Mathlib.Nat.{mul_comm, mul_assoc, mul_left_comm, mul-pos}
 use native.Mathlib.Omega.{arith}
 use lib.ListN.{length, get_or, take, drop, length-take, length-drop}
 use lib.Seq.{get_or-take, get_or-drop}
-use Rattle.capped.specs.declared.Sum.{Sum}
-use Rattle.capped.specs.Cap.{cap, both, times, times_both}
+use Rattle.capped.specs.Cap.{cap, both, times, times_both, Sum}
 use Rattle.capped.proofs.Laws.{both-cap, times-cap, times-both}
 use Rattle.sums.specs.Sum.{sum}
 use Rattle.sums.specs.Index.{Index, index, box_of, inside}
@@ -16,7 +15,7 @@ use Rattle.model.specs.declared.Counts.{Counts}
 use Rattle.model.specs.Counts.{sets, slices_of}
 use Rattle.model.specs.Data.{Data, duration}
 use Rattle.model.specs.Prices.{year_weight}
-use Rattle.tables.specs.Layout.{Inside, PlanEntryAt, plan_entry}
+use Rattle.tables.specs.Layout.{Inside, plan_entry, EntryAt}
 use Rattle.tables.proofs.Laws.{column_place, column-below, column-is}
 use Rattle.unit_prices.specs.Prices.{Hourly, set_of, hour_price}
 use Rattle.hour_costs.specs.Costs.{Hours, slices_cost}

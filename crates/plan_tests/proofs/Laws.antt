@@ -1,4 +1,6 @@
 -- Laws of the plan's tests and of the board's: what each says, by what the code found.
+use Rattle.model.specs.declared.Refusal.{Refusal}
+use Rattle.std.specs.Prelude.{Ok, Err}
 use mathlib.Core.Path.{◌≡◌}
 use mathlib.Core.Bool.{Bool, false, ◌&&◌}
 use Prim.Native.Nat.{ℕ, ◌≤◌, ◌<◌}
@@ -6,17 +8,16 @@ use native.Mathlib.Omega.{arith}
 use lib.Dec.{ltb}
 use borrow.Author.Tests.{le-leb, lt-leb, eq-eqb, ne_eqb, lt-ltb, le-ltb}
 use Rattle.sums.specs.Span.{fine, or_else}
-use Rattle.model.specs.declared.Outcome.TheVariants.{Fine, Fails}
 use Rattle.model.specs.declared.Refusal.TheVariants.{Scale, PlanLength}
 use Rattle.model.specs.Tests.{unless, scale_fault}
 use Rattle.plan_tests.specs.Tests.{plan_test}
 
 module _ (N places columns : ℕ) where
-  pub scale-zero : N ≡ 0 → Fails Scale ≡ plan_test N places columns
+  pub scale-zero : N ≡ 0 → Err Scale ≡ plan_test N places columns
   unfolding plan_test scale_fault unless or_else
   scale-zero e = rw e
 
-  pub scale-large : 1000 < N → Fails Scale ≡ plan_test N places columns
+  pub scale-large : 1000 < N → Err Scale ≡ plan_test N places columns
   unfolding plan_test scale_fault unless or_else
   scale-large h = rw (le-leb 1 N (omega arith), lt-leb N 1000 h)
 
@@ -24,11 +25,11 @@ module _ (N places columns : ℕ) where
   unfolding scale_fault unless
   scale-fine z h = rw (le-leb 1 N (omega (arith, z)), le-leb N 1000 h)
 
-  pub plan-short : (N ≡ 0 → ⊥) → N ≤ 1000 → (places ≡ columns → ⊥) → Fails (PlanLength columns) ≡ plan_test N places columns
+  pub plan-short : (N ≡ 0 → ⊥) → N ≤ 1000 → (places ≡ columns → ⊥) → Err (PlanLength columns) ≡ plan_test N places columns
   unfolding plan_test unless or_else
   plan-short z h d = rw (scale-fine z h, ne_eqb places columns d)
 
-  pub plan-fits : (N ≡ 0 → ⊥) → N ≤ 1000 → places ≡ columns → Fine ≡ plan_test N places columns
+  pub plan-fits : (N ≡ 0 → ⊥) → N ≤ 1000 → places ≡ columns → (Ok tt) ≡ plan_test N places columns
   unfolding plan_test unless or_else
   plan-fits z h e = rw (scale-fine z h, eq-eqb places columns e)
 

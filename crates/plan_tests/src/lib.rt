@@ -4,22 +4,22 @@
 ghost use Rattle.std.specs.Prelude.{◌≡◌, ◌&&◌, ◌-◌, ltb, leb};
 ghost use Rattle.plan_tests.specs.Tests.{plan_test};
 
-use model::{Outcome, Refusal};
+use model::{Refusal};
 
 // Refusals 4 and 5.
-pub fn test_plan(scale: u32, places: usize, columns: usize) -> Outcome
+pub fn test_plan(scale: u32, places: usize, columns: usize) -> Result<(), Refusal>
     ensures { result ≡ plan_test scale places columns }
 {
     if scale == 0 {
-        return Outcome::Fails(Refusal::Scale);
+        return Err(Refusal::Scale);
     }
     if scale > 1000 {
-        return Outcome::Fails(Refusal::Scale);
+        return Err(Refusal::Scale);
     }
     if places != columns {
-        return Outcome::Fails(Refusal::PlanLength(columns));
+        return Err(Refusal::PlanLength(columns));
     }
-    Outcome::Fine
+    Ok(())
 }
 
 // Refusal 14: the year is one of the plan's, and the places from `start` on are enough. Compared by subtraction, since `start` may be any number.

@@ -4,8 +4,7 @@ use mathlib.Core.List.{List}
 use Prim.Native.Nat.{ℕ, ◌*◌, ◌<◌}
 use native.Mathlib.Nat.{zero-add, add-zero, add_assoc, zero-mul}
 use native.Mathlib.Omega.{arith}
-use Rattle.capped.specs.declared.Sum.{Sum}
-use Rattle.capped.specs.Cap.{cap, times}
+use Rattle.capped.specs.Cap.{cap, times, Sum}
 use Rattle.capped.proofs.Laws.{times-cap}
 use Rattle.sums.specs.Sum.{sum}
 use Rattle.sums.specs.Index.{Index, index, box_of, inside}
@@ -16,7 +15,7 @@ use Rattle.model.specs.Counts.{sets}
 use Rattle.model.specs.Data.{Data}
 use Rattle.model.specs.Columns.{column_boxes, column_kind_count}
 use Rattle.model.specs.Prices.{price, cost}
-use Rattle.tables.specs.Layout.{Counted, ColumnsAt, PlanEntryAt}
+use Rattle.tables.specs.Layout.{Counted, ColumnsAt, EntryAt}
 use Rattle.unit_prices.specs.Prices.{set_of, firsts_of, seconds_of}
 use Rattle.column_prices.specs.Factors.{unit_price}
 use Rattle.hour_costs.specs.Costs.{Yearly, of_cap, of_firmshort, of_total, hours_cost, year_cost}

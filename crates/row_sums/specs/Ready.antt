@@ -1,7 +1,6 @@
 -- What the row functions work on and answer.
 use Rattle.std.specs.Prelude.{◌≡◌, Bool, true, false, not, List, ℕ, ◌*◌, ◌-◌}
-use Rattle.capped.specs.declared.Sum.{Sum}
-use Rattle.capped.specs.Cap.{cap, plus}
+use Rattle.capped.specs.Cap.{cap, plus, Sum}
 use Rattle.sums.specs.Span.{fine}
 use Rattle.sums.specs.Index.{Index, index}
 use Rattle.sums.specs.Linear.{◌·◌, value}
@@ -17,7 +16,7 @@ use Rattle.constants.specs.declared.Constant.{Constant}
 use Rattle.row_sums.specs.declared.Sides.{Sides}
 
 -- what the rows of every family work on: data and plan as laid out and tested, the parts of year y, and the energies
-pub record Ready (l plan os rs cs ls : List ℕ) (energy : List (List ℕ)) (tables-at columns-at : List ℕ) (c : Counts) (y : ℕ) : Type 0 where
+pub record Ready (l plan os rs cs ls : List ℕ) (energy : List Sum) (tables-at columns-at : List ℕ) (c : Counts) (y : ℕ) : Type 0 where
   pub tables_at : TablesAt l tables-at c
   pub sound : entries_fault (read l) ≡ fine
   pub columns_at : ColumnsAt plan columns-at c

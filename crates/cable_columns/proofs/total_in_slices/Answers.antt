@@ -16,7 +16,7 @@ loop-s-init c = walked_none c.none-p.ensures
 pub total_in_slice-requires : goal.total_in_slice-requires
 total_in_slice-requires c =
     let p = c.requires in
-    ((p.0.tables_at.counted, (p.0.rows_at, c.by_pair-power.ensures.1)), (p.1.0, (p.1.1.0, (p.1.1.1, omega (arith, c.slices_of-n.ensures.0, c.loop-s-test.true)))))
+    ((c.args.pricing.now.tables_at.counted, (c.args.pricing.now.rows_at, c.by_pair-power.ensures.1)), (c.requires.0, (c.requires.1.0, (c.requires.1.1, omega (arith, c.slices_of-n.ensures.0, c.loop-s-test.true)))))
 
 pub loop-s-preserved : goal.loop-s-preserved
 loop-s-preserved c =

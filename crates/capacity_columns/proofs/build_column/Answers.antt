@@ -6,7 +6,7 @@ use Rattle.capacity_columns.proofs.build_column.Goals as goal
 pub take_row_if-requires : goal.take_row_if-requires
 take_row_if-requires c =
     let p = c.requires in
-    λ _. row_at p.0.tables_at.counted p.0.rows_at (omega arith) p.1.0 p.1.1 (omega arith) (omega arith)
+    λ _. row_at c.args.pricing.now.tables_at.counted c.args.pricing.now.rows_at (omega arith) c.requires.0 c.requires.1 (omega arith) (omega arith)
 
 pub returns : goal.returns
 unfolding build_in⁻

@@ -6,7 +6,7 @@ use Rattle.capacity_columns.proofs.cap_column.Goals as goal
 pub returns : goal.returns
 returns c =
     let a = c.args in
-    let n = c.requires.0.tables_at.counts in
+    let n = c.args.pricing.now.tables_at.counts in
     let slices = c.cap_in_slices-slices.ensures in
     let seasons = c.cap_in_seasons-seasons.ensures in
     let year = c.cap_in_year-year.ensures in

@@ -6,7 +6,7 @@ use Rattle.column_terms.proofs.Laws.{Walked}
 use Rattle.capacity_columns.proofs.cap_in_seasons.Given as goal
 
 abbrev pub invariant-loop-q : goal.invariant-loop-q
-invariant-loop-q l = Walked l.c l.ms l.c.seasons (cap_in_season⁺ (read l.«data») l.y l.g) (λ _. nothing) l.q l.p
+invariant-loop-q l = Walked l.pricing.multipliers.counts l.pricing.multipliers.list.now l.pricing.multipliers.counts.seasons (cap_in_season⁺ (read l.pricing.tested.tables.list.now) l.y l.g) (λ _. nothing) l.q l.p
 
 abbrev pub decreases-loop-q : goal.decreases-loop-q
-decreases-loop-q l = l.c.seasons - l.q
+decreases-loop-q l = l.pricing.multipliers.counts.seasons - l.q

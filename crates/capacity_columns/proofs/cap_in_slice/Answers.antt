@@ -9,27 +9,27 @@ use Rattle.capacity_columns.proofs.cap_in_slice.Goals as goal
 pub cap_in_ramps-r-requires : goal.cap_in_ramps-r-requires
 cap_in_ramps-r-requires c =
     let p = c.requires in
-    (plant-row p.0 p.1.1 (omega arith) refl, plant-row p.0 p.1.1 (omega arith) refl)
+    (plant-row c.args.pricing.now c.requires.1 (omega arith) refl, plant-row c.args.pricing.now c.requires.1 (omega arith) refl)
 
 pub add_row_if-t-requires : goal.add_row_if-t-requires
 add_row_if-t-requires c =
     let p = c.requires in
-    λ _. plant-row p.0 p.1.1 (omega arith) refl
+    λ _. plant-row c.args.pricing.now c.requires.1 (omega arith) refl
 
 pub take_row_if-u-requires : goal.take_row_if-u-requires
 take_row_if-u-requires c =
     let p = c.requires in
-    λ _. plant-row p.0 p.1.1 (omega arith) refl
+    λ _. plant-row c.args.pricing.now c.requires.1 (omega arith) refl
 
 pub add_row_if-v-requires : goal.add_row_if-v-requires
 add_row_if-v-requires c =
     let p = c.requires in
-    λ _. plant-row p.0 p.1.1 (omega arith) refl
+    λ _. plant-row c.args.pricing.now c.requires.1 (omega arith) refl
 
 pub cap_in_ramps-requires : goal.cap_in_ramps-requires
 cap_in_ramps-requires c =
     let p = c.requires in
-    (plant-row p.0 p.1.1 (omega arith) refl, plant-row p.0 p.1.1 (omega arith) refl)
+    (plant-row c.args.pricing.now c.requires.1 (omega arith) refl, plant-row c.args.pricing.now c.requires.1 (omega arith) refl)
 
 pub returns : goal.returns
 unfolding cap_in_slice⁺ cap_in_slice⁻ rates_of
@@ -44,5 +44,5 @@ returns c =
     let t6 = add-priced-if t5 _ c.add_row_if-v.ensures in
     let t7 = add-priced-if (add-priced-if t6 _ refl) _ c.cap_in_ramps.ensures in
     priced-as t7 _ _
-    (λ m. rw (c.both.ensures, on_both, on_both, p.0.tables_at.counts, p.1.0, c.by_plant_slice-profile.ensures.0, c.after_first_hour-ramps.ensures) (omega arith))
-    (λ m. rw (p.1.0, c.on_min_load_day-least.ensures) (omega arith))
+    (λ m. rw (c.both.ensures, on_both, on_both, c.args.pricing.now.tables_at.counts, c.requires.0, c.by_plant_slice-profile.ensures.0, c.after_first_hour-ramps.ensures) (omega arith))
+    (λ m. rw (c.requires.0, c.on_min_load_day-least.ensures) (omega arith))

@@ -9,7 +9,7 @@ loop-s-init c = walked_none c.none-p.ensures
 pub cap_in_slice-requires : goal.cap_in_slice-requires
 cap_in_slice-requires c =
     let p = c.requires in
-    (p.0, (c.rates_of-rates.ensures, (p.1.0, (p.1.1, omega (arith, c.slices_of-n.ensures.0, c.loop-s-test.true)))))
+    (c.args.pricing.now, (c.rates_of-rates.ensures, (c.requires.0, (c.requires.1, omega (arith, c.slices_of-n.ensures.0, c.loop-s-test.true)))))
 
 pub loop-s-preserved : goal.loop-s-preserved
 loop-s-preserved c =

@@ -7,25 +7,25 @@ use Rattle.capacity_columns.proofs.cap_in_year.Goals as goal
 pub take_row_if-r-requires : goal.take_row_if-r-requires
 take_row_if-r-requires c =
     let p = c.requires in
-    λ e. row_at p.0.tables_at.counted p.0.rows_at (omega arith) (ltb-true _ _ e) p.1.1 (omega arith) (omega arith)
+    λ e. row_at c.args.pricing.now.tables_at.counted c.args.pricing.now.rows_at (omega arith) (ltb-true _ _ e) c.requires.1 (omega arith) (omega arith)
 
 pub out_of_service-requires : goal.out_of_service-requires
 out_of_service-requires c =
-    let p = c.requires in (p.0.tables_at, (p.1.0, p.1.1))
+    let p = c.requires in (c.args.pricing.now.tables_at, (c.requires.0, c.requires.1))
 
 pub take_row_if-t-requires : goal.take_row_if-t-requires
 take_row_if-t-requires c =
     let p = c.requires in
-    λ _. row_at p.0.tables_at.counted p.0.rows_at (omega arith) p.1.0 p.1.1 (omega arith) (omega arith)
+    λ _. row_at c.args.pricing.now.tables_at.counted c.args.pricing.now.rows_at (omega arith) c.requires.0 c.requires.1 (omega arith) (omega arith)
 
 pub is_existing-requires : goal.is_existing-requires
 is_existing-requires c =
-    let p = c.requires in (p.0.tables_at, p.1.1)
+    let p = c.requires in (c.args.pricing.now.tables_at, c.requires.1)
 
 pub take_row_if-requires : goal.take_row_if-requires
 take_row_if-requires c =
     let p = c.requires in
-    λ _. row_at p.0.tables_at.counted p.0.rows_at (omega arith) (omega arith) (omega arith) (omega arith) (omega arith)
+    λ _. row_at c.args.pricing.now.tables_at.counted c.args.pricing.now.rows_at (omega arith) (omega arith) (omega arith) (omega arith) (omega arith)
 
 pub returns : goal.returns
 unfolding cap_in_year⁺ cap_in_year⁻
@@ -38,4 +38,4 @@ returns c =
     let t5 = take-priced-if t4 _ c.take_row_if.ensures in
     priced-as t5 _ _
     (λ m. rw (c.zone_of-z.ensures.0, c.by_plant-credit.ensures.0) (omega arith))
-    (λ m. rw (c.requires.0.tables_at.counts, c.weighted_annuity-annuity.ensures, c.out_of_service.ensures, c.is_existing.ensures) (omega arith))
+    (λ m. rw (c.args.pricing.now.tables_at.counts, c.weighted_annuity-annuity.ensures, c.out_of_service.ensures, c.is_existing.ensures) (omega arith))

@@ -6,7 +6,7 @@ use Rattle.column_prices.proofs.hours_of.Goals as goal
 
 pub by_slice-requires : goal.by_slice-requires
 by_slice-requires c =
-    let l = rw ((by-hour (rest-hourly _ c.requires.1.0 c.in_default.in_default-own.rest)).own c.args.c) at c.requires.1.1 in
+    let l = rw ((by-hour (rest-hourly _ c.requires.0 c.in_default.in_default-own.rest)).own c.args.tables.now.counts) at c.requires.1 in
     search rules
 
 pub returns-in-0 : goal.returns-in-0
@@ -47,4 +47,4 @@ returns-in-13 c = rw c.in-13.is
 
 pub returns-in_default : goal.returns-in_default
 returns-in_default c =
-    c.by_slice.ensures.0 ∙ sym ((by-hour (rest-hourly _ c.requires.1.0 c.in_default.in_default-own.rest)).hours _ _)
+    c.by_slice.ensures.0 ∙ sym ((by-hour (rest-hourly _ c.requires.0 c.in_default.in_default-own.rest)).hours _ _)

@@ -7,14 +7,14 @@ use borrow.Author.Rules.{rules}
 use Rattle.column_prices.proofs.unit_price.Goals as goal
 
 pub yearly_price-requires : goal.yearly_price-requires
-yearly_price-requires c = let l = rw c.in-0.is at c.requires.1.1.1.0 in search rules
+yearly_price-requires c = let l = rw c.in-0.is at c.requires.1.1.0 in search rules
 
 pub line_price-requires : goal.line_price-requires
-line_price-requires c = let p = c.requires in (p.0, rw c.in-13.is at p.1.1.1)
+line_price-requires c = let p = c.requires in (c.args.tables.now.laid_out, rw c.in-13.is at c.requires.1.1)
 
 pub hour_price-requires : goal.hour_price-requires
 hour_price-requires c =
-    let p = c.requires in (p.0, (rest-hourly _ p.1.0 c.in_default.in_default-own.rest, (p.1.1.0, p.1.1.1.0)))
+    let p = c.requires in (c.args.tables.now.laid_out, (rest-hourly _ c.requires.0 c.in_default.in_default-own.rest, (c.requires.1.0, c.requires.1.1.0)))
 
 pub returns-in-0 : goal.returns-in-0
 unfolding unit_price
@@ -54,5 +54,5 @@ returns-in-13 c = c.product-in-13.ensures ∙ rw (c.in-13.is, c.year_weight-shar
 
 pub returns-in_default : goal.returns-in_default
 returns-in_default c =
-    let hourly = rest-hourly _ c.requires.1.0 c.in_default.in_default-own.rest in
+    let hourly = rest-hourly _ c.requires.0 c.in_default.in_default-own.rest in
     c.scale.ensures ∙ rw (c.hour_price.ensures, c.year_weight-share.ensures) (times-cap _ _ ∙ ap cap (sym ((by-hour hourly).unit _ _ _ _)))

@@ -1,6 +1,6 @@
+use Rattle.model.specs.Calls.{outcome}
 use mathlib.Core.Path.{refl, sym, ap, ◌∙◌}
 use borrow.Author.Rules.{rules}
-use Rattle.tables.specs.Layout.{outcome}
 use Rattle.data_tests.proofs.Passed.{outcome-fine, stopped, went_on, head-short, head-long}
 use Rattle.data_tests.proofs.test_head.Goals as goal
 

@@ -8,19 +8,19 @@ use Rattle.dispatch_columns.proofs.gen_column.Goals as goal
 pub in_ramps-ramps-requires : goal.in_ramps-ramps-requires
 in_ramps-ramps-requires c =
     let p = c.requires in
-    (plant-ramp p.0 p.1 (omega arith) refl, plant-ramp p.0 p.1 (omega arith) refl)
+    (plant-ramp c.args.pricing.now c.requires (omega arith) refl, plant-ramp c.args.pricing.now c.requires (omega arith) refl)
 
 pub is_battery-requires : goal.is_battery-requires
-is_battery-requires c = let p = c.requires in (p.0.tables_at, p.1.1.0)
+is_battery-requires c = let p = c.requires in (c.args.pricing.now.tables_at, c.requires.1.0)
 
 pub add_row_if-requires : goal.add_row_if-requires
 add_row_if-requires c =
-    let p = c.requires in λ _. plant-row p.0 p.1 (omega arith) refl
+    let p = c.requires in λ _. plant-row c.args.pricing.now c.requires (omega arith) refl
 
 pub returns : goal.returns
 returns c =
     let a = c.args in
-    let n = c.requires.0.tables_at.counts in
+    let n = c.args.pricing.now.tables_at.counts in
     let zone = c.gen_in_zone-zone.ensures in
     let load = c.gen_in_load-load.ensures in
     let ramps = c.in_ramps-ramps.ensures in

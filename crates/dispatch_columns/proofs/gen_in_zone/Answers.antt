@@ -5,27 +5,27 @@ use Rattle.dispatch_columns.proofs.gen_in_zone.Goals as goal
 
 pub is_vre-requires : goal.is_vre-requires
 is_vre-requires c =
-    let p = c.requires in (p.0.tables_at, p.1.1.0)
+    let p = c.requires in (c.args.pricing.now.tables_at, c.requires.1.0)
 
 pub take_row_if-q-requires : goal.take_row_if-q-requires
 take_row_if-q-requires c =
     let p = c.requires in
-    λ _. row_at p.0.tables_at.counted p.0.rows_at (omega arith) p.1.0 c.zone_of-z.ensures.1 (omega arith) p.1.1.1
+    λ _. row_at c.args.pricing.now.tables_at.counted c.args.pricing.now.rows_at (omega arith) c.requires.0 c.zone_of-z.ensures.1 (omega arith) c.requires.1.1
 
 pub take_row-r-requires : goal.take_row-r-requires
 take_row-r-requires c =
     let p = c.requires in
-    row_at p.0.tables_at.counted p.0.rows_at (omega arith) p.1.0 c.zone_of-z.ensures.1 c.fuel_of-f.ensures.1 (omega arith)
+    row_at c.args.pricing.now.tables_at.counted c.args.pricing.now.rows_at (omega arith) c.requires.0 c.zone_of-z.ensures.1 c.fuel_of-f.ensures.1 (omega arith)
 
 pub take_row-t-requires : goal.take_row-t-requires
 take_row-t-requires c =
     let p = c.requires in
-    row_at p.0.tables_at.counted p.0.rows_at (omega arith) p.1.0 c.zone_of-z.ensures.1 (omega arith) (omega arith)
+    row_at c.args.pricing.now.tables_at.counted c.args.pricing.now.rows_at (omega arith) c.requires.0 c.zone_of-z.ensures.1 (omega arith) (omega arith)
 
 pub take_row-requires : goal.take_row-requires
 take_row-requires c =
     let p = c.requires in
-    row_at p.0.tables_at.counted p.0.rows_at (omega arith) p.1.0 (omega arith) (omega arith) (omega arith)
+    row_at c.args.pricing.now.tables_at.counted c.args.pricing.now.rows_at (omega arith) c.requires.0 (omega arith) (omega arith) (omega arith)
 
 pub returns : goal.returns
 unfolding gen_in_zone⁺ gen_in_zone⁻

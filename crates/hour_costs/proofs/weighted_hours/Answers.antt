@@ -14,4 +14,4 @@ loop-s-preserved c =
     (c.add_product-total.ensures ∙ rw (h.is, c.by_slice.ensures.0, c.wide.ensures.0, plus-cap))
 
 pub returns : goal.returns
-returns c = rw (← c.requires.1) (summed-all c.loop-s.invariant c.loop-s-test.false)
+returns c = rw (← c.requires) (summed-all c.loop-s.invariant c.loop-s-test.false)

@@ -10,7 +10,7 @@ pub loop-u-preserved : goal.loop-u-preserved
 loop-u-preserved c =
     let h = c.loop-u.invariant in
     let power-is = c.by_pair-power.ensures.0 in
-    let lines-is = c.planned_by_link-lines.ensures.0 in
+    let lines-is = c.by_link-lines.ensures.0 in
     summed-more h c.loop-u-test.true (c.add_product_if-total.ensures ∙ rw (h.is, power-is, lines-is, plus-on))
 
 pub returns : goal.returns

@@ -9,7 +9,7 @@ use Rattle.terms.proofs.Laws.{Summed}
 use Rattle.links.proofs.received.Given as goal
 
 abbrev pub invariant-loop-u : goal.invariant-loop-u
-invariant-loop-u l = Summed l.c.zones (λ u. on (not (eqb u l.z)) ((1000 - loss (read l.«data») l.y u l.z) * plan_entry l.c l.plan (trans l.y u l.z l.s))) l.u l.total
+invariant-loop-u l = Summed l.case.plan.counts.zones (λ u. on (not (eqb u l.z)) ((1000 - loss (read l.case.tables.list.now) l.y u l.z) * plan_entry l.case.plan.counts l.case.plan.list.now (trans l.y u l.z l.s))) l.u l.total
 
 abbrev pub decreases-loop-u : goal.decreases-loop-u
-decreases-loop-u l = l.c.zones - l.u
+decreases-loop-u l = l.case.plan.counts.zones - l.u

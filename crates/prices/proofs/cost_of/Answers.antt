@@ -16,4 +16,4 @@ loop-y-preserved c =
 
 pub returns : goal.returns
 returns c =
-    summed-all c.loop-y.invariant c.loop-y-test.false ∙ ap cap (sym (cost-by-year _ _ _ c.requires.0.counts))
+    summed-all c.loop-y.invariant c.loop-y-test.false ∙ ap cap (sym (cost-by-year _ _ _ c.args.case.now.tables.laid_out.counts))

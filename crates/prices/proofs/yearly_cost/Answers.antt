@@ -7,7 +7,7 @@ use borrow.Author.Rules.{rules}
 use Rattle.prices.proofs.yearly_cost.Goals as goal
 
 pub column_box-b-requires : goal.column_box-b-requires
-column_box-b-requires c = let p = c.requires in (p.0.counted, (by-year p.1.1.0).below)
+column_box-b-requires c = let p = c.requires in (c.args.case.now.tables.laid_out.counted, (by-year c.requires.0).below)
 
 pub loop-i-init : goal.loop-i-init
 loop-i-init c = summed-none c.zero-total.ensures

@@ -19,16 +19,16 @@ returns-then-not-is_battery c =
 pub in_ramps-ramps-requires : goal.in_ramps-ramps-requires
 in_ramps-ramps-requires c =
     let p = c.requires in
-    (plant-ramp p.0 p.1 (omega arith) refl, plant-ramp p.0 p.1 (omega arith) refl)
+    (plant-ramp c.args.pricing.now c.requires (omega arith) refl, plant-ramp c.args.pricing.now c.requires (omega arith) refl)
 
 pub take_row-r-requires : goal.take_row-r-requires
-take_row-r-requires c = let p = c.requires in plant-row p.0 p.1 (omega arith) refl
+take_row-r-requires c = let p = c.requires in plant-row c.args.pricing.now c.requires (omega arith) refl
 
 pub returns : goal.returns
 unfolding charge_in⁺ charge_in⁻
 returns c =
-    let D = read c.args.«data».now in
-    let n = c.requires.0.tables_at.counts in
+    let D = read c.args.pricing.now.tested.tables.now.list.now in
+    let n = c.args.pricing.now.tables_at.counts in
     let t0 = none-priced c.none.ensures in
     let t1 = take-priced t0 c.take_row-p.ensures in
     let t2 = take-priced t1 c.take_row-q.ensures in

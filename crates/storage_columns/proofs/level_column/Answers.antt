@@ -14,15 +14,15 @@ returns-then-not-is_battery c =
     priced-as t1 _ _ (λ m. rw other (omega arith)) (λ m. rw other (omega arith))
 
 pub overflow_add-next : goal.overflow_add-next
-overflow_add-next c = let p = c.requires in record { fits = omega (arith, few-slices p.0.tables_at.counted, p.1.1.1) }
+overflow_add-next c = let p = c.requires in record { fits = omega (arith, few-slices c.args.pricing.now.tables_at.counted, c.requires.1.1) }
 
 pub add_row-q-requires : goal.add_row-q-requires
-add_row-q-requires c = let p = c.requires in plant-row p.0 p.1 (omega arith) refl
+add_row-q-requires c = let p = c.requires in plant-row c.args.pricing.now c.requires (omega arith) refl
 
 pub take_row_if-requires : goal.take_row_if-requires
 take_row_if-requires c =
     let p = c.requires in
-    λ e. (next-ramp (plant-ramp p.0 p.1 {k = 20} (omega arith) refl) (sym c.after_first_hour.ensures ∙ e)).own
+    λ e. (next-ramp (plant-ramp c.args.pricing.now c.requires {k = 20} (omega arith) refl) (sym c.after_first_hour.ensures ∙ e)).own
 
 pub returns : goal.returns
 unfolding level_in⁺ level_in⁻
@@ -30,7 +30,7 @@ returns c =
     let t1 = take-priced (none-priced c.none.ensures) c.take_row-p.ensures in
     let t2 = add-priced t1 c.add_row-q.ensures in
     let t3 = take-priced-if t2 _ c.take_row_if.ensures in
-    let n = c.requires.0.tables_at.counts in
+    let n = c.args.pricing.now.tables_at.counts in
     let battery = sym c.is_battery.ensures ∙ c.if-not-is_battery.false in
     priced-as t3 _ _
     (λ m. rw battery (omega arith))

@@ -12,7 +12,7 @@ overflow_add-next c = let p = c.requires.0 in record { fits = omega (arith, few-
 pub in_ramp-later-requires : goal.in_ramp-later-requires
 in_ramp-later-requires c =
     let p = c.requires in
-    λ e. let h = sym c.after_first_hour-2.ensures ∙ e in (next-ramp p.1 h, next-ramp p.0 h)
+    λ e. let h = sym c.after_first_hour-2.ensures ∙ e in (next-ramp c.requires.1 h, next-ramp c.requires.0 h)
 
 pub returns : goal.returns
 unfolding in_ramps

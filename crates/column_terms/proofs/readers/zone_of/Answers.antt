@@ -6,4 +6,4 @@ pub returns : goal.returns
 returns c =
     let e = c.place.ensures ∙ c.by_plant.ensures.0 in
     let p = c.requires in
-    (e, rw e (zone-below p.0 p.1.0 p.1.1))
+    (e, rw e (zone-below c.args.tested.now.tables.now.laid_out c.args.tested.now.tested c.requires))

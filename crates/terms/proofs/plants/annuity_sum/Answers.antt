@@ -12,7 +12,7 @@ loop-g-preserved c =
     let share-is = c.year_weight-share.ensures in
     let kind-is = c.by_plant-candidate.ensures.0 in
     let annuity-is = c.by_year_plant-annuity.ensures.0 in
-    let capacity-is = c.planned_by_year_plant.ensures.0 in
+    let capacity-is = c.by_year_plant.ensures.0 in
     summed-more h c.loop-g-test.true (c.add_product3_if-total.ensures ∙ rw (h.is, share-is, kind-is, annuity-is, capacity-is, plus-on))
 
 pub returns : goal.returns

@@ -8,10 +8,10 @@ use Rattle.terms.proofs.plants.annuity_sum.Given as goal
 
 abbrev pub invariant-loop-g : goal.invariant-loop-g
 invariant-loop-g l = Summed
-    l.c.plants
-    (λ g. on (candidate (read l.«data») g) (rate (read l.«data») l.y * weight (read l.«data») l.y * annuity (read l.«data») l.y g * plan_entry l.c l.plan (cap l.y g)))
+    l.case.plan.counts.plants
+    (λ g. on (candidate (read l.case.tables.list.now) g) (rate (read l.case.tables.list.now) l.y * weight (read l.case.tables.list.now) l.y * annuity (read l.case.tables.list.now) l.y g * plan_entry l.case.plan.counts l.case.plan.list.now (cap l.y g)))
     l.g
     l.total
 
 abbrev pub decreases-loop-g : goal.decreases-loop-g
-decreases-loop-g l = l.c.plants - l.g
+decreases-loop-g l = l.case.plan.counts.plants - l.g

@@ -8,10 +8,10 @@ use Rattle.terms.proofs.plants.capital_sum.Given as goal
 
 abbrev pub invariant-loop-y : goal.invariant-loop-y
 invariant-loop-y l = Summed
-    l.c.years
-    (λ y. sum l.c.plants (λ g. on (candidate (read l.«data») g) (rate (read l.«data») y * weight (read l.«data») y * annuity (read l.«data») y g * plan_entry l.c l.plan (cap y g))))
+    l.case.plan.counts.years
+    (λ y. sum l.case.plan.counts.plants (λ g. on (candidate (read l.case.tables.list.now) g) (rate (read l.case.tables.list.now) y * weight (read l.case.tables.list.now) y * annuity (read l.case.tables.list.now) y g * plan_entry l.case.plan.counts l.case.plan.list.now (cap y g))))
     l.y
     l.total
 
 abbrev pub decreases-loop-y : goal.decreases-loop-y
-decreases-loop-y l = l.c.years - l.y
+decreases-loop-y l = l.case.plan.counts.years - l.y

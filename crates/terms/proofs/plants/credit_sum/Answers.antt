@@ -11,7 +11,7 @@ loop-g-preserved c =
     let h = c.loop-g.invariant in
     let zone-is = c.by_plant.ensures.0 in
     let credit-is = c.by_plant-credit.ensures.0 in
-    let capacity-is = c.planned_by_year_plant.ensures.0 in
+    let capacity-is = c.by_year_plant.ensures.0 in
     summed-more h c.loop-g-test.true (c.add_product_if-total.ensures ∙ rw (h.is, zone-is, credit-is, capacity-is, plus-on))
 
 pub returns : goal.returns

@@ -8,7 +8,7 @@ use Rattle.terms.proofs.Laws.{Summed}
 use Rattle.terms.proofs.plants.credit_sum.Given as goal
 
 abbrev pub invariant-loop-g : goal.invariant-loop-g
-invariant-loop-g l = Summed l.c.plants (λ g. on (eqb (zone (read l.«data») g) l.z) (cap_credit (read l.«data») g * plan_entry l.c l.plan (cap l.y g))) l.g l.total
+invariant-loop-g l = Summed l.case.plan.counts.plants (λ g. on (eqb (zone (read l.case.tables.list.now) g) l.z) (cap_credit (read l.case.tables.list.now) g * plan_entry l.case.plan.counts l.case.plan.list.now (cap l.y g))) l.g l.total
 
 abbrev pub decreases-loop-g : goal.decreases-loop-g
-decreases-loop-g l = l.c.plants - l.g
+decreases-loop-g l = l.case.plan.counts.plants - l.g

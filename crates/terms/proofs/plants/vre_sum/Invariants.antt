@@ -9,10 +9,10 @@ use Rattle.terms.proofs.plants.vre_sum.Given as goal
 
 abbrev pub invariant-loop-g : goal.invariant-loop-g
 invariant-loop-g l = Summed
-    l.c.plants
-    (λ g. on (eqb (zone (read l.«data») g) l.z) (on (is_vre (read l.«data») g) (l.err * get_or l.part (g * slices_of l.c + l.s) 0)))
+    l.tables.counts.plants
+    (λ g. on (eqb (zone (read l.tables.list.now) g) l.z) (on (is_vre (read l.tables.list.now) g) (l.err * get_or l.part (g * slices_of l.tables.counts + l.s) 0)))
     l.g
     l.total
 
 abbrev pub decreases-loop-g : goal.decreases-loop-g
-decreases-loop-g l = l.c.plants - l.g
+decreases-loop-g l = l.tables.counts.plants - l.g
