@@ -8,7 +8,7 @@ use native.Mathlib.Omega.{arith}
 use mathlib.Core.Bool.{true, false}
 use lib.Dec.{ltb}
 use lib.ListN.{length, get_or, take, length-append}
-use lib.Seq.{take-nil}
+use lib.Seq.{take-nil, take_all}
 use borrow.Author.Tests.{lt-ltb, le-ltb, true-ltb, false-ltb}
 use denote.Bor.{Bor}
 use Rattle.std.specs.Fmt.{decimal as shown}
@@ -33,12 +33,17 @@ pub added-none : (size : ℕ) (l : List ℕ) → added size l [] ≡ l
 unfolding added
 added-none size l = rw take-nil (append-nil l)
 
-pub added-joined : (size : ℕ) (l p q : List ℕ) → added size (added size l p) q ≡ added size l (p ++ q)
+-- several words at once are each behind the one before
+pub added_joined : (size : ℕ) (l p q : List ℕ) → added size l (p ++ q) ≡ added size (added size l p) q
 unfolding added
-added-joined size l p q =
+added_joined size l p q =
     let n = size - length l in
     let m : size - length (l ++ take n p) ≡ n - length (take n p) = omega (arith, length-append l (take n p)) in
-    rw (m, append_assoc) (ap (λ (k : List ℕ). l ++ k) (take-joined n p q))
+    rw (m, append_assoc) (ap (λ (k : List ℕ). l ++ k) (sym (take-joined n p q)))
+
+-- the same of the line before, between and after
+pub said-joined : (size : ℕ) (l p q : List ℕ) {m k : List ℕ} → m ≡ added size l p → k ≡ added size m q → k ≡ added size l (p ++ q)
+said-joined size l p q e f = f ∙ rw (e, added_joined size l p q)
 
 -- from the start of a line
 pub added-whole : (size : ℕ) (p : List ℕ) → added size [] p ≡ take size p
@@ -121,3 +126,8 @@ module _ (names : List (Bor (List ℕ))) (k : ℕ) where
       past [] i h = refl
       past (x ∷ l) zero h = absurd (omega arith)
       past (x ∷ l) (suc i) h = past l i (omega arith)
+
+-- words that there is room for
+pub added-fitting : (size : ℕ) (l p : List ℕ) → length l + length p ≤ size → added size l p ≡ l ++ p
+unfolding added
+added-fitting size l p h = rw (take_all (size - length l) p (omega arith))

@@ -1,5 +1,5 @@
 // Words and numbers written one behind another into a line of fixed room. What has no room is left out.
-#![tactic(auto)]
+#![tactic(auto, using(crate::proofs::Laws::added_joined))]
 
 ghost use Rattle.std.specs.Prelude.{cond, ◌≡◌, ◌++◌, ◌≤◌, [], length, map};
 ghost use Rattle.writer.specs.Decimal.{decimal};
