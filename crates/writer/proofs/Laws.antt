@@ -17,7 +17,6 @@ use Rattle.std.proofs.Math.Nat.{min_comm}
 use Rattle.std.proofs.lemmas.List.{get_or-map, length-map, take_min}
 use Rattle.writer.specs.Decimal.{digit, digits_within, decimal}
 use Rattle.writer.specs.Writing.{added}
-use Rattle.writer.specs.Names.{name_at}
 
 -- Words added one after the other.
 
@@ -111,18 +110,16 @@ shown_decimal n h =
 pub take_fitting : (n : ℕ) (words : List ℕ) → take (min (length words) n) words ≡ take n words
 take_fitting n words = rw (min_comm (length words) n) (take_min n words)
 
--- The name of number k, of names that the code lends.
+-- The list of number k, of lists that the code lends.
 
-module _ (names : List (Bor (List ℕ))) (k : ℕ) where
-  pub name-found : {name : Bor (List ℕ)} → true ≡ ltb k (length names) → name ≡ get_or names k name → name_at (map (λ (lent : Bor (List ℕ)). lent.now) names) k ≡ name.now
-  unfolding name_at
-  name-found {name} h e = get_or-map (λ (lent : Bor (List ℕ)). lent.now) names k name [] (true-ltb k (length names) h) ∙ ap (λ (lent : Bor (List ℕ)). lent.now) (sym e)
+module _ {A : Type 0} (lists : List (Bor (List A))) (k : ℕ) where
+  pub list-found : {list : Bor (List A)} → true ≡ ltb k (length lists) → list ≡ get_or lists k list → get_or (map (λ (lent : Bor (List A)). lent.now) lists) k [] ≡ list.now
+  list-found {list} h e = get_or-map (λ (lent : Bor (List A)). lent.now) lists k list [] (true-ltb k (length lists) h) ∙ ap (λ (lent : Bor (List A)). lent.now) (sym e)
 
-  pub name-past : false ≡ ltb k (length names) → name_at (map (λ (lent : Bor (List ℕ)). lent.now) names) k ≡ []
-  unfolding name_at
-  name-past h = past (map (λ (lent : Bor (List ℕ)). lent.now) names) k (rw length-map (false-ltb k (length names) h))
+  pub list-past : false ≡ ltb k (length lists) → get_or (map (λ (lent : Bor (List A)). lent.now) lists) k [] ≡ []
+  list-past h = past (map (λ (lent : Bor (List A)). lent.now) lists) k (rw length-map (false-ltb k (length lists) h))
     where
-      past : (l : List (List ℕ)) (i : ℕ) → length l ≤ i → get_or l i [] ≡ []
+      past : (l : List (List A)) (i : ℕ) → length l ≤ i → get_or l i [] ≡ []
       past [] i h = refl
       past (x ∷ l) zero h = absurd (omega arith)
       past (x ∷ l) (suc i) h = past l i (omega arith)
