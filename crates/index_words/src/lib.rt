@@ -1,5 +1,5 @@
 // The indices of a row, a column or an entry in words, each counted from 1.
-#![tactic(auto, using(writer::proofs::Laws::added_joined))]
+#![tactic(auto)]
 
 ghost use Rattle.std.specs.Prelude.{◌≡◌, [], ◌++◌, ◌+◌, ◌≤◌, get_or, map};
 ghost use Rattle.sums.specs.Index.{index_of};
@@ -61,7 +61,6 @@ pub fn say_counted(line: &mut Line<ROOM>, words: &[u8], index: usize)
 }
 
 // A slice by its season, its day and its hour.
-#[tactic(auto, using(writer::proofs::Laws::added_joined), unfolding(crate::specs::Indices::slice_words))]
 fn say_slice(line: &mut Line<ROOM>, c: Counts, s: usize)
     requires { Counted c × (s ≤ 1000) }
     ensures { line.new ≡ added room line.old (slice_words c s) }
@@ -92,7 +91,6 @@ fn say_index(line: &mut Line<ROOM>, c: Counts, p: Place, meaning: Meaning)
 }
 
 // Several indices, one behind another.
-#[tactic(auto, using(writer::proofs::Laws::added_joined), unfolding(crate::specs::Indices::indices_words))]
 fn say_indices(line: &mut Line<ROOM>, c: Counts, p: Place, meanings: &[Meaning])
     requires { Counted c × Low p }
     ensures { line.new ≡ added room line.old (indices_words c (index_of p) meanings.now) }
