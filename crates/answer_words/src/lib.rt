@@ -47,16 +47,16 @@ const REFUSAL_NAMES: [&str; 17] = [
 
 // The place of a refusal, and its figures.
 #[tactic(auto, unfolding(crate::specs::Answers::body_words))]
-fn say_body(line: &mut Line<ROOM>, inputs: Inputs, refusal: Refusal)
-    requires { Asked inputs.«data».now inputs.plan.now inputs.multipliers.now refusal }
-    ensures { line.new ≡ added room line.old (body_words inputs.«data».now inputs.scale inputs.plan.now inputs.multipliers.now refusal) }
+fn say_body(line: &mut Line<ROOM>, inputs: &Inputs, refusal: Refusal)
+    requires { Asked inputs.now.«data».now inputs.now.plan.now inputs.now.multipliers.now refusal }
+    ensures { line.new ≡ added room line.old (body_words inputs.now.«data».now inputs.now.scale inputs.now.plan.now inputs.now.multipliers.now refusal) }
 {
     let Inputs {
         data,
         scale,
         plan,
         multipliers,
-    } = inputs;
+    } = *inputs;
     match refusal {
         Refusal::Shape(count) => say_shape(line, data, count),
         Refusal::DataLength(numbers) => say_lengths(line, b"DATA", data.len(), numbers),
@@ -80,9 +80,9 @@ fn say_body(line: &mut Line<ROOM>, inputs: Inputs, refusal: Refusal)
 }
 
 // A refusal: its word, its place and its figures.
-fn say_refusal(line: &mut Line<ROOM>, inputs: Inputs, refusal: Refusal)
-    requires { Asked inputs.«data».now inputs.plan.now inputs.multipliers.now refusal }
-    ensures { line.new ≡ added room line.old (refused_words inputs.«data».now inputs.scale inputs.plan.now inputs.multipliers.now refusal) }
+fn say_refusal(line: &mut Line<ROOM>, inputs: &Inputs, refusal: Refusal)
+    requires { Asked inputs.now.«data».now inputs.now.plan.now inputs.now.multipliers.now refusal }
+    ensures { line.new ≡ added room line.old (refused_words inputs.now.«data».now inputs.now.scale inputs.now.plan.now inputs.now.multipliers.now refusal) }
 {
     let code = code_of(refusal);
     line.say_name(&REFUSAL_NAMES, code.number as usize);
@@ -92,9 +92,9 @@ fn say_refusal(line: &mut Line<ROOM>, inputs: Inputs, refusal: Refusal)
 
 // The sentence of an answer, without its line feed.
 #[tactic(auto, unfolding(crate::specs::Answers::sentence))]
-pub fn say_sentence(line: &mut Line<ROOM>, inputs: Inputs, answer: Certificate)
-    requires { AskedOf inputs.«data».now inputs.plan.now inputs.multipliers.now answer }
-    ensures { line.new ≡ added room line.old (sentence inputs.«data».now inputs.scale inputs.plan.now inputs.multipliers.now answer) }
+pub fn say_sentence(line: &mut Line<ROOM>, inputs: &Inputs, answer: Certificate)
+    requires { AskedOf inputs.now.«data».now inputs.now.plan.now inputs.now.multipliers.now answer }
+    ensures { line.new ≡ added room line.old (sentence inputs.now.«data».now inputs.now.scale inputs.now.plan.now inputs.now.multipliers.now answer) }
 {
     match answer {
         Certificate::Issued(cost, gap) => say_accepted(line, cost, gap),
