@@ -14,8 +14,9 @@ use Rattle.sums.proofs.Sums.{sum-cong, sum-scale}
 use Rattle.model.specs.declared.Counts.{Counts}
 use Rattle.model.specs.Counts.{sets, slices_of}
 use Rattle.model.specs.Data.{Data, duration}
+use Rattle.model.specs.Columns.{column_sets}
 use Rattle.model.specs.Prices.{year_weight}
-use Rattle.tables.specs.Layout.{Inside, plan_entry, EntryAt}
+use Rattle.tables.specs.Layout.{Counted, ColumnsAt, Inside, plan_entry, EntryAt}
 use Rattle.tables.proofs.Laws.{column_place, column-below, column-is}
 use Rattle.unit_prices.specs.Prices.{Hourly, set_of, hour_price}
 use Rattle.hour_costs.specs.Costs.{Hours, slices_cost}
@@ -47,7 +48,7 @@ module _ (D : Data) (c : Counts) (x : Index → ℕ) {t : ℕ} (h : Hourly t) (y
       er ∙ rw (eq, ep, ew, em, times-cap (hour_price D t y i) (year_weight D y)) (times-both per_hour hours ∙ ap cap hours-cost)
 
 -- The part of the plan that holds the slices of plant or zone i in year y
-module _ {plan columns-at : List ℕ} {c : Counts} {t y i : ℕ} (m : Hours plan columns-at c t y i) where
+module _ {plan columns-at : List ℕ} {c : Counts} (few : Counted c) (at : ColumnsAt plan columns-at c) {t y i : ℕ} (m : Hours c t y i) where
   pub slices-inside : {k s : ℕ} → k ≡ set_of t → s < slices_of c → Inside c k y i 0 s
   slices-inside e l = rw e (record {
     year = rw ((by-hour m.table).own c) m.year;
@@ -57,20 +58,20 @@ module _ {plan columns-at : List ℕ} {c : Counts} {t y i : ℕ} (m : Hours plan
   })
 
   pub some-slices : 0 < slices_of c
-  some-slices = mul-pos (mul-pos m.counted.some_seasons m.counted.some_days) m.counted.some_hours
+  some-slices = mul-pos (mul-pos few.some_seasons few.some_days) few.some_hours
 
-  column : {s : ℕ} → s < slices_of c → PlanEntryAt plan columns-at c t (set_of t) y i 0 s
-  column l = record { columns_at = m.columns_at; counted = m.counted; table = (by-hour m.table).below; set = refl; inside = slices-inside refl l }
+  column : {s : ℕ} → s < slices_of c → EntryAt column_sets c t (set_of t) y i 0 s
+  column l = record { table = (by-hour m.table).below; set = refl; inside = slices-inside refl l }
 
   -- the code has the index set's code k, the place o of the first slice inside the table, and the number n of slices in locals
   module _ {k o n : ℕ} (ek : k ≡ set_of t) (eo : o ≡ inside (box_of (sets c) k) y i 0 0) (en : n ≡ slices_of c) where
-    place_is : {s : ℕ} (l : s < slices_of c) → get_or columns-at t 0 + o + s ≡ column_place (column l)
+    place_is : {s : ℕ} (l : s < slices_of c) → get_or columns-at t 0 + o + s ≡ column_place at (column l)
     place_is l = rw (eo, ek) (omega arith)
 
     pub slices-fit : get_or columns-at t 0 + o + n ≤ length plan
     slices-fit =
         let last : slices_of c - 1 < slices_of c = omega (arith, some-slices) in
-        omega (arith, en, place_is last, column-below (column last))
+        omega (arith, en, place_is last, column-below at (column last))
 
     abbrev pub slices : List ℕ
     slices = take n (drop (get_or columns-at t 0 + o) plan)
@@ -80,5 +81,5 @@ module _ {plan columns-at : List ℕ} {c : Counts} {t y i : ℕ} (m : Hours plan
       omega (arith, length-take n (drop (get_or columns-at t 0 + o) plan), length-drop (get_or columns-at t 0 + o) plan, slices-fit),
       λ s l.
           get_or-take n (drop (get_or columns-at t 0 + o) plan) s 0 (omega arith)
-          ∙ get_or-drop (get_or columns-at t 0 + o) plan s 0 ∙ ap (λ (p : ℕ). get_or plan p 0) (place_is l) ∙ column-is (column l),
+          ∙ get_or-drop (get_or columns-at t 0 + o) plan s 0 ∙ ap (λ (p : ℕ). get_or plan p 0) (place_is l) ∙ column-is at (column l),
     )
