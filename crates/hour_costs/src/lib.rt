@@ -21,6 +21,7 @@ use terms::totals::total;
 use unit_prices::hour_price;
 
 // The slices of plant or zone i in year y: a part of the plan.
+#[tactic(auto, using(column_prices::proofs::Laws::column_laws))]
 fn slices_at<'a>(plan: &Plan<'a>, t: usize, y: usize, i: usize) -> &'a [u32]
     requires { Hours plan.now.counts t y i }
     ensures { (length result.now ≡ slices_of plan.now.counts) × ((s : ℕ) → s < slices_of plan.now.counts → get_or result.now s 0 ≡ entry_of plan.now (index t y i 0 s)) }
@@ -64,14 +65,13 @@ fn hourly_cost(case: &Case, t: usize, y: usize) -> Sum
     total(b.firsts, |i| slices_cost(case, t, y, i))
 }
 
+// The kinds of column that are priced by the hour.
+const HOURLY: [usize; 5] = [GEN, RESERVE, UNMET, SURPLUS, SPINSHORT];
+
 // Σ price·entry of all tables priced by the hour, in year y.
 pub fn hours_cost(case: &Case, y: usize) -> Sum
     requires { y < case.now.plan.counts.years }
     ensures { result ≡ cap (hours_cost (data_of case.now.tables) case.now.plan.counts (entry_of case.now.plan) y) }
 {
-    let output = hourly_cost(case, GEN, y);
-    let with_reserve = capped::join(output, hourly_cost(case, RESERVE, y));
-    let with_unmet = capped::join(with_reserve, hourly_cost(case, UNMET, y));
-    let with_surplus = capped::join(with_unmet, hourly_cost(case, SURPLUS, y));
-    capped::join(with_surplus, hourly_cost(case, SPINSHORT, y))
+    total(HOURLY.len(), |k| hourly_cost(case, HOURLY[k], y))
 }
