@@ -38,6 +38,18 @@ pub struct Multiplier {
     pub down: u64,
 }
 
+impl Multiplier {
+    // Of the same size, with the other sign.
+    pub fn negated(self) -> Multiplier
+        ensures { (result.up ≡ self.down) × (result.down ≡ self.up) }
+    {
+        Multiplier {
+            up: self.down,
+            down: self.up,
+        }
+    }
+}
+
 // -1 - m is never out of range, and 0 - m can be.
 pub fn parts_of(m: i64) -> Multiplier
     ensures { result ≡ multiplier_of m }
