@@ -11,7 +11,6 @@ ghost use Rattle.tables.specs.Lists.{data_of, entry_of};
 use tables::lists::{Case, Tables};
 use energy::totals::{EnergyTable, burned, emitted, emitted_in};
 use fleet_constants::{capital_constant, fuel_use_constant, new_capacity_constant, stock_constant, system_emission_constant, yearly_build_constant, zone_emission_constant};
-use parts::slices::long;
 use row_sums::{Sides, at_most, empty, with_constant};
 use tables::names::{BUILD, CAP, KIND, RETIRE, YEAR};
 use tables::sets::BY_YEAR_PLANT;
@@ -121,7 +120,7 @@ pub fn fuel_use(tables: &Tables, energy: &EnergyTable, scale: u64, y: usize, z: 
     ensures { (x : Index → ℕ) → Energies (data_of tables.now) x energy.now tables.now.counts → result ≡ sides_of (data_of tables.now) scale x (row 17 y z f 0) }
 {
     at_most(
-        burned(tables, energy, y, long(z), long(f)),
+        burned(tables, energy, y, z as u64, f as u64),
         scale,
         fuel_use_constant(tables, y, f),
     )
@@ -144,7 +143,7 @@ pub fn zone_emission(tables: &Tables, energy: &EnergyTable, scale: u64, y: usize
     ensures { (x : Index → ℕ) → Energies (data_of tables.now) x energy.now tables.now.counts → result ≡ sides_of (data_of tables.now) scale x (row 19 y z 0 0) }
 {
     at_most(
-        emitted_in(tables, energy, y, long(z)),
+        emitted_in(tables, energy, y, z as u64),
         scale,
         zone_emission_constant(tables, y, z),
     )
@@ -167,7 +166,7 @@ fn in_service(kind: u64, year: u64, y: usize) -> bool
     requires { y < 10 }
     ensures { result ≡ not ((eqb kind 0 && leb year (y + 1)) || (not (eqb kind 0) && ltb (y + 1) year)) }
 {
-    let this_year = long(y) + 1;
+    let this_year = y as u64 + 1;
     if kind == 0 {
         return this_year < year;
     }
