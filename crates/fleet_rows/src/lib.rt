@@ -1,10 +1,10 @@
 // Families 12 to 20: the rows of the fleet: capacity, builds, fuel, capital and emissions.
 #![tactic(auto)]
 
-ghost use Rattle.std.specs.Prelude.{◌≡◌, not, ◌&&◌, ◌||◌, ℕ, ◌+◌, ◌<◌, eqb, leb, ltb, length};
+ghost use Rattle.std.specs.Prelude.{◌≡◌, not, ◌&&◌, ◌||◌, ℕ, ◌+◌, ◌<◌, eqb, leb, ltb};
 ghost use Rattle.sums.specs.Index.{Index};
 ghost use Rattle.model.specs.Families.{row};
-ghost use Rattle.energy.specs.Energies.{Energies, energy_count};
+ghost use Rattle.energy.specs.Energies.{Energies};
 ghost use Rattle.row_sums.specs.Ready.{sides_of};
 ghost use Rattle.tables.specs.Lists.{data_of, entry_of};
 
@@ -116,7 +116,7 @@ pub fn yearly_build(case: &Case, scale: u64, y: usize, g: usize) -> Sides
 
 // 17 (62): Σ Dur·HeatRate·gen of that zone and fuel ≤ 1000·MaxFuel
 pub fn fuel_use(tables: &Tables, energy: &EnergyTable, scale: u64, y: usize, z: usize, f: usize) -> Sides
-    requires { (length energy.now ≡ energy_count) × ((y < tables.now.counts.years) × ((z < tables.now.counts.zones) × (f < tables.now.counts.fuels))) }
+    requires { (y < tables.now.counts.years) × ((z < tables.now.counts.zones) × (f < tables.now.counts.fuels)) }
     ensures { (x : Index → ℕ) → Energies (data_of tables.now) x energy.now tables.now.counts → result ≡ sides_of (data_of tables.now) scale x (row 17 y z f 0) }
 {
     at_most(
@@ -139,7 +139,7 @@ pub fn capital(case: &Case, scale: u64) -> Sides
 
 // 19 (66): Σ Dur·E·gen in z ≤ 1000·zone cap
 pub fn zone_emission(tables: &Tables, energy: &EnergyTable, scale: u64, y: usize, z: usize) -> Sides
-    requires { (length energy.now ≡ energy_count) × ((y < tables.now.counts.years) × (z < tables.now.counts.zones)) }
+    requires { (y < tables.now.counts.years) × (z < tables.now.counts.zones) }
     ensures { (x : Index → ℕ) → Energies (data_of tables.now) x energy.now tables.now.counts → result ≡ sides_of (data_of tables.now) scale x (row 19 y z 0 0) }
 {
     at_most(
@@ -151,7 +151,7 @@ pub fn zone_emission(tables: &Tables, energy: &EnergyTable, scale: u64, y: usize
 
 // 20 (68): Σ Dur·E·gen ≤ 1000·system cap
 pub fn system_emission(tables: &Tables, energy: &EnergyTable, scale: u64, y: usize) -> Sides
-    requires { (length energy.now ≡ energy_count) × (y < tables.now.counts.years) }
+    requires { y < tables.now.counts.years }
     ensures { (x : Index → ℕ) → Energies (data_of tables.now) x energy.now tables.now.counts → result ≡ sides_of (data_of tables.now) scale x (row 20 y 0 0 0) }
 {
     at_most(

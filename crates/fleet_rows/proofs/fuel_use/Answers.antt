@@ -10,4 +10,4 @@ pub returns : goal.returns
 unfolding sides_of constant_of fuel_use
 returns c x n =
     limit _ _ c.at_most.ensures c.fuel_use_constant.ensures
-    (c.burned.ensures ∙ fuel-energy n c.args.tables.now.laid_out.counts c.requires.1.0 _ _)
+    (c.burned.ensures ∙ fuel-energy n c.args.tables.now.laid_out.counts c.requires.0 _ _)
