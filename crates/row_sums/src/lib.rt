@@ -16,7 +16,7 @@ pub struct Sides {
 }
 
 // What a ramp bounds: how far an hour's output or charge lies below that of the hour before, or above it.
-#[derive(Clone, Copy)]
+#[derive(Clone, Copy, Debug, PartialEq, Eq)]
 pub enum Change {
     Fall,
     Rise,
