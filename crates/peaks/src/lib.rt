@@ -6,7 +6,7 @@ ghost use Rattle.sums.specs.Sum.{largest};
 ghost use Rattle.model.specs.Data.{peak, most32};
 ghost use Rattle.tables.specs.Lists.{data_of};
 
-use tables::lists::{Tables, wide};
+use tables::lists::Tables;
 use tables::names::DEMAND;
 use tables::sets::slices_of;
 
@@ -34,5 +34,5 @@ pub fn zone_peak(tables: &Tables, y: usize, z: usize) -> u64
     let n = slices_of(tables.counts);
     let from = tables.starts[DEMAND] + (y * tables.counts.zones + z) * n;
     let to = from + n;
-    wide(peak_of(&tables.list[from..to]))
+    u64::from(peak_of(&tables.list[from..to]))
 }

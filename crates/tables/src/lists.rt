@@ -22,7 +22,7 @@ pub fn number_at(list: &[u32], i: usize) -> u64
     requires { i < length list.now }
     ensures { (result ≡ get_or list.now i 0) × (result ≤ most32) }
 {
-    wide(list[i])
+    u64::from(list[i])
 }
 
 pub fn wide(x: u32) -> u64

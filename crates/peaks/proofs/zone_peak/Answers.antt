@@ -1,5 +1,6 @@
 use mathlib.Core.Path.{◌∙◌}
 use native.Mathlib.Omega.{arith}
+use borrow.Author.Rules.{rules}
 use Rattle.peaks.proofs.Laws.{part-below, part-peak}
 use Rattle.peaks.proofs.zone_peak.Goals as goal
 
@@ -26,4 +27,4 @@ slice_bounds-peak_of-end c = omega (arith, part-below c.args.tables.now.laid_out
 
 pub returns : goal.returns
 returns c =
-    (c.wide.ensures.0 ∙ part-peak c.args.tables.now.laid_out c.requires.0 c.requires.1 c.slices_of-n.ensures.0 c.peak_of.ensures, c.wide.ensures.1)
+    (c.from.ensures ∙ part-peak c.args.tables.now.laid_out c.requires.0 c.requires.1 c.slices_of-n.ensures.0 c.peak_of.ensures, search rules)
