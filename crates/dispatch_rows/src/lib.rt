@@ -19,7 +19,7 @@ use energy::totals::{EnergyTable, energy_at};
 use model::Counts;
 use parts::slices::{day_of, first_hour, season_of};
 use parts::years::part_at;
-use row_sums::{Sides, empty};
+use row_sums::{Change, Sides, empty};
 use tables::names::{AVAILABILITY, CAP, MIN_CAP_FAC, MIN_LOAD, OVER_LOAD, PROFILE, RES_OFFER};
 use terms::plants::season_hours;
 
@@ -66,44 +66,33 @@ pub fn offer(case: &Case, reserves: &[u32], y: usize, g: usize, s: usize) -> Sid
     }
 }
 
-// What a ramp bounds: how far an hour's output or charge may lie below that of the hour before, or above it.
-pub const FALL: bool = true;
-
-pub const RISE: bool = false;
-
 // A ramp over the hour before, t > 0, of a year's part of gen or charge: 1000 times its fall, or its rise, is at most the table `rate` times cap.
 // 7 (24): the fall of gen, RampDn; 8 (25): its rise, RampUp; 23 and 24 by `charge_ramp`.
-pub fn ramp(case: &Case, part: &[u32], rate: usize, falls: bool, y: usize, g: usize, s: usize) -> Sides
+pub fn ramp(case: &Case, part: &[u32], rate: usize, change: Change, y: usize, g: usize, s: usize) -> Sides
     requires { (EntryAt table_sets case.now.plan.counts rate [g] 0 g 0 0 × (length part.now ≡ case.now.plan.counts.plants * slices_of case.now.plan.counts)) × ((y < case.now.plan.counts.years) × ((g < case.now.plan.counts.plants) × (s < slices_of case.now.plan.counts))) }
-    ensures { (k : ℕ) → YearPart case.now.plan.list.now part.now case.now.plan.counts k y → result ≡ terms_of (ramp_of (data_of case.now.tables) ((data_of case.now.tables).entry rate 0 g 0 0) k falls y g s) (entry_of case.now.plan) }
+    ensures { (k : ℕ) → YearPart case.now.plan.list.now part.now case.now.plan.counts k y → result ≡ terms_of (ramp_of (data_of case.now.tables) ((data_of case.now.tables).entry rate 0 g 0 0) k change y g s) (entry_of case.now.plan) }
 {
     if first_hour(case.plan.counts, s) {
         return empty();
     }
+    let (high, low) = high_and_low(change, s);
     let allowed = rate_of_capacity(&case.plan, case.tables.by_plant(rate, g), y, g);
     Sides {
-        above: capped::join(allowed, in_thousandths(part, case.plan.counts, g, low_slice(falls, s))),
-        below: in_thousandths(part, case.plan.counts, g, high_slice(falls, s)),
+        above: capped::join(allowed, in_thousandths(part, case.plan.counts, g, low)),
+        below: in_thousandths(part, case.plan.counts, g, high),
     }
 }
 
-// Of a slice and the one before it, the one whose column may not lie too far above the other's: the earlier where the fall is bound.
-fn high_slice(falls: bool, s: usize) -> usize
+// Of a slice and the one before it, the one whose column may not lie too far above the other's, then the other.
+fn high_and_low(change: Change, s: usize) -> (usize, usize)
     requires { 1 ≤ s }
-    ensures { result ≡ high falls s }
+    ensures are { (result.0 ≡ high change s) × (result.1 ≡ low change s) }
+    ensures within { (result.0 ≤ s) × (result.1 ≤ s) }
 {
-    if falls {
-        return s - 1;
+    match change {
+        Change::Fall => (s - 1, s),
+        Change::Rise => (s, s - 1),
     }
-    s
-}
-
-// And the other of the two.
-fn low_slice(falls: bool, s: usize) -> usize
-    requires { 1 ≤ s }
-    ensures { result ≡ low falls s }
-{
-    high_slice(!falls, s)
 }
 
 // 9 (26), minimum-load days: 1000·gen ≥ MinCapFac·cap

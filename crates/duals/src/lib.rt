@@ -134,6 +134,7 @@ fn set_of(k: usize) -> usize
 }
 
 // A multiplier for every row, with the counts and the starts of the families.
+#[derive(Drop)]
 pub struct Multipliers<'a> {
     pub list: &'a [i64],
     pub counts: Counts,
@@ -155,6 +156,7 @@ impl Multipliers<'_> {
 }
 
 // Data whose entries are in range, with a multiplier for each of its rows: what prices the columns and makes the gap.
+#[derive(Drop)]
 pub struct Pricing<'a> {
     pub tested: TestedTables<'a>,
     pub multipliers: Multipliers<'a>,

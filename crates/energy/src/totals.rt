@@ -8,17 +8,16 @@ ghost use Rattle.tables.specs.Layout.{Counted};
 ghost use Rattle.energy.specs.Energies.{energy_at, both_if, all_if, all_of, year_energy, energy_count};
 ghost use Rattle.tables.specs.Lists.{data_of};
 
-use tables::lists::Tables;
-use capped::{Kept, Sum};
+use capped::Sum;
 use model::Counts;
-use parts::slices::both;
 use parts::years::part_at;
+use tables::lists::Tables;
 use tables::names::{DURATION, EMISSION, FUEL, HEAT_RATE, ZONE};
 
 // A plant's energy in every year and season, as many of each as there may be: 10 years, 32 plants and 4 seasons.
 pub const ENERGY_COUNT: usize = 1280;
 
-pub type EnergyTable = [Kept; ENERGY_COUNT];
+pub type EnergyTable = [Sum; ENERGY_COUNT];
 
 // Σ Dur·gen of a plant over the slices of season q, from the year's part of gen.
 pub fn season_energy(tables: &Tables, outputs: &[u32], g: usize, q: usize) -> Sum
@@ -37,10 +36,10 @@ pub fn season_energy(tables: &Tables, outputs: &[u32], g: usize, q: usize) -> Su
 
 // The energy of a year, plant and season.
 pub fn energy_at(energy: &EnergyTable, c: Counts, y: usize, g: usize, q: usize) -> Sum
-    requires { Counted c × ((length energy.now ≡ energy_count) × ((y < c.years) × ((g < c.plants) × (q < c.seasons)))) }
+    requires { Counted c × ((y < c.years) × ((g < c.plants) × (q < c.seasons))) }
     ensures { result ≡ energy_at c energy.now y g q }
 {
-    capped::sum_kept(energy[(y * c.plants + g) * c.seasons + q])
+    energy[(y * c.plants + g) * c.seasons + q]
 }
 
 // factor·Σ of a plant's energies over the seasons of year y, added to a sum where a test holds.
@@ -53,7 +52,7 @@ fn add_energy_if(
     y: usize,
     g: usize,
 ) -> Sum
-    requires { Counted c × ((length energy.now ≡ energy_count) × ((y < c.years) × (g < c.plants))) }
+    requires { Counted c × ((y < c.years) × (g < c.plants)) }
     ensures { result ≡ both_if here total (year_energy c energy.now factor y g) }
 {
     if !here {
@@ -68,15 +67,12 @@ fn add_energy_if(
 
 // Σ Dur·HeatRate·gen over the plants of zone z and fuel f, in year y.
 pub fn burned(tables: &Tables, energy: &EnergyTable, y: usize, z: u64, f: u64) -> Sum
-    requires { (length energy.now ≡ energy_count) × (y < tables.now.counts.years) }
+    requires { y < tables.now.counts.years }
     ensures { result ≡ all_if tables.now.counts.plants (λ g. eqb (zone (data_of tables.now) g) z && eqb (fuel (data_of tables.now) g) f) (λ g. year_energy tables.now.counts energy.now (heat_rate (data_of tables.now) g) y g) }
 {
     let mut total = capped::zero();
     for g in 0..tables.counts.plants {
-        let here = both(
-            tables.by_plant(ZONE, g) == z,
-            tables.by_plant(FUEL, g) == f,
-        );
+        let here = (tables.by_plant(ZONE, g) == z) & (tables.by_plant(FUEL, g) == f);
         total = add_energy_if(
             here,
             total,
@@ -92,7 +88,7 @@ pub fn burned(tables: &Tables, energy: &EnergyTable, y: usize, z: u64, f: u64) -
 
 // Σ Dur·E·gen over the plants of zone z, in year y.
 pub fn emitted_in(tables: &Tables, energy: &EnergyTable, y: usize, z: u64) -> Sum
-    requires { (length energy.now ≡ energy_count) × (y < tables.now.counts.years) }
+    requires { y < tables.now.counts.years }
     ensures { result ≡ all_if tables.now.counts.plants (λ g. eqb (zone (data_of tables.now) g) z) (λ g. year_energy tables.now.counts energy.now (emission (data_of tables.now) g) y g) }
 {
     let mut total = capped::zero();
@@ -113,7 +109,7 @@ pub fn emitted_in(tables: &Tables, energy: &EnergyTable, y: usize, z: u64) -> Su
 
 // Σ Dur·E·gen over all plants, in year y.
 pub fn emitted(tables: &Tables, energy: &EnergyTable, y: usize) -> Sum
-    requires { (length energy.now ≡ energy_count) × (y < tables.now.counts.years) }
+    requires { y < tables.now.counts.years }
     ensures { result ≡ all_of tables.now.counts.plants (λ g. year_energy tables.now.counts energy.now (emission (data_of tables.now) g) y g) }
 {
     let mut total = capped::zero();

@@ -1,17 +1,16 @@
 // Families 12 to 20: the rows of the fleet: capacity, builds, fuel, capital and emissions.
 #![tactic(auto)]
 
-ghost use Rattle.std.specs.Prelude.{◌≡◌, not, ◌&&◌, ◌||◌, ℕ, ◌+◌, ◌<◌, eqb, leb, ltb, length};
+ghost use Rattle.std.specs.Prelude.{◌≡◌, not, ◌&&◌, ◌||◌, ℕ, ◌+◌, ◌<◌, eqb, leb, ltb};
 ghost use Rattle.sums.specs.Index.{Index};
 ghost use Rattle.model.specs.Families.{row};
-ghost use Rattle.energy.specs.Energies.{Energies, energy_count};
+ghost use Rattle.energy.specs.Energies.{Energies};
 ghost use Rattle.row_sums.specs.Ready.{sides_of};
 ghost use Rattle.tables.specs.Lists.{data_of, entry_of};
 
 use tables::lists::{Case, Tables};
 use energy::totals::{EnergyTable, burned, emitted, emitted_in};
 use fleet_constants::{capital_constant, fuel_use_constant, new_capacity_constant, stock_constant, system_emission_constant, yearly_build_constant, zone_emission_constant};
-use parts::slices::long;
 use row_sums::{Sides, at_most, empty, with_constant};
 use tables::names::{BUILD, CAP, KIND, RETIRE, YEAR};
 use tables::sets::BY_YEAR_PLANT;
@@ -117,11 +116,11 @@ pub fn yearly_build(case: &Case, scale: u64, y: usize, g: usize) -> Sides
 
 // 17 (62): Σ Dur·HeatRate·gen of that zone and fuel ≤ 1000·MaxFuel
 pub fn fuel_use(tables: &Tables, energy: &EnergyTable, scale: u64, y: usize, z: usize, f: usize) -> Sides
-    requires { (length energy.now ≡ energy_count) × ((y < tables.now.counts.years) × ((z < tables.now.counts.zones) × (f < tables.now.counts.fuels))) }
+    requires { (y < tables.now.counts.years) × ((z < tables.now.counts.zones) × (f < tables.now.counts.fuels)) }
     ensures { (x : Index → ℕ) → Energies (data_of tables.now) x energy.now tables.now.counts → result ≡ sides_of (data_of tables.now) scale x (row 17 y z f 0) }
 {
     at_most(
-        burned(tables, energy, y, long(z), long(f)),
+        burned(tables, energy, y, z as u64, f as u64),
         scale,
         fuel_use_constant(tables, y, f),
     )
@@ -140,11 +139,11 @@ pub fn capital(case: &Case, scale: u64) -> Sides
 
 // 19 (66): Σ Dur·E·gen in z ≤ 1000·zone cap
 pub fn zone_emission(tables: &Tables, energy: &EnergyTable, scale: u64, y: usize, z: usize) -> Sides
-    requires { (length energy.now ≡ energy_count) × ((y < tables.now.counts.years) × (z < tables.now.counts.zones)) }
+    requires { (y < tables.now.counts.years) × (z < tables.now.counts.zones) }
     ensures { (x : Index → ℕ) → Energies (data_of tables.now) x energy.now tables.now.counts → result ≡ sides_of (data_of tables.now) scale x (row 19 y z 0 0) }
 {
     at_most(
-        emitted_in(tables, energy, y, long(z)),
+        emitted_in(tables, energy, y, z as u64),
         scale,
         zone_emission_constant(tables, y, z),
     )
@@ -152,7 +151,7 @@ pub fn zone_emission(tables: &Tables, energy: &EnergyTable, scale: u64, y: usize
 
 // 20 (68): Σ Dur·E·gen ≤ 1000·system cap
 pub fn system_emission(tables: &Tables, energy: &EnergyTable, scale: u64, y: usize) -> Sides
-    requires { (length energy.now ≡ energy_count) × (y < tables.now.counts.years) }
+    requires { y < tables.now.counts.years }
     ensures { (x : Index → ℕ) → Energies (data_of tables.now) x energy.now tables.now.counts → result ≡ sides_of (data_of tables.now) scale x (row 20 y 0 0 0) }
 {
     at_most(
@@ -167,7 +166,7 @@ fn in_service(kind: u64, year: u64, y: usize) -> bool
     requires { y < 10 }
     ensures { result ≡ not ((eqb kind 0 && leb year (y + 1)) || (not (eqb kind 0) && ltb (y + 1) year)) }
 {
-    let this_year = long(y) + 1;
+    let this_year = y as u64 + 1;
     if kind == 0 {
         return this_year < year;
     }

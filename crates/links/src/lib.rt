@@ -10,8 +10,8 @@ ghost use Rattle.model.specs.Columns.{trans, total_lines};
 ghost use Rattle.links.specs.Links.{link};
 ghost use Rattle.tables.specs.Lists.{data_of, entry_of};
 
-use tables::lists::{Case, Plan};
 use capped::Sum;
+use tables::lists::{Case, Plan};
 use tables::names::{LOSS, MW_PER_LINE, TOTAL_LINES, TRANS};
 
 // Σ (1000 − Loss[u,z])·trans[u,z] over the other zones u: what zone z receives.
@@ -21,47 +21,43 @@ pub fn received(case: &Case, y: usize, z: usize, s: usize) -> Sum
 {
     let mut total = capped::zero();
     for u in 0..case.plan.counts.zones {
-        let kept = kept_of(case.tables.by_link(LOSS, y, u, z));
+        // thousandths that the link delivers
+        let kept = 1000u64.saturating_sub(case.tables.by_link(LOSS, y, u, z));
         let flow = case.plan.by_link_slice(TRANS, y, u, z, s);
         total = capped::add_product_if(u != z, total, kept, flow);
     }
     total
 }
 
-// Thousandths that a link delivers.
-fn kept_of(lost: u64) -> u64
-    ensures { result ≡ 1000 - lost }
-{
-    if lost < 1000 { 1000 - lost } else { 0 }
+// A link's direction, seen from the zone whose links are summed.
+#[derive(Clone, Copy, Debug, PartialEq, Eq)]
+pub enum Direction {
+    Inward,
+    Outward,
 }
 
-// A link's direction, seen from the zone whose links are summed.
-pub const INWARD: bool = true;
-
-pub const OUTWARD: bool = false;
-
-// 1000·Σ trans over the links of zone z with the other zones u: trans[u,z] where `inward` holds, else trans[z,u].
-pub fn flows(plan: &Plan, inward: bool, y: usize, z: usize, s: usize) -> Sum
+// 1000·Σ trans over the links of zone z with the other zones u: trans[u,z] inward, trans[z,u] outward.
+pub fn flows(plan: &Plan, direction: Direction, y: usize, z: usize, s: usize) -> Sum
     requires { (y < plan.now.counts.years) × ((z < plan.now.counts.zones) × (s < slices_of plan.now.counts)) }
-    ensures { result ≡ cap (sum plan.now.counts.zones (λ u. on (not (eqb u z)) (1000 * entry_of plan.now (link inward y z u s)))) }
+    ensures { result ≡ cap (sum plan.now.counts.zones (λ u. on (not (eqb u z)) (1000 * entry_of plan.now (link direction y z u s)))) }
 {
     let mut total = capped::zero();
     for u in 0..plan.counts.zones {
-        let flow = flow_between(plan, inward, y, z, u, s);
+        let flow = flow_between(plan, direction, y, z, u, s);
         total = capped::add_product_if(u != z, total, 1000, flow);
     }
     total
 }
 
-// trans[u,z] where `inward` holds, else trans[z,u].
-fn flow_between(plan: &Plan, inward: bool, y: usize, z: usize, u: usize, s: usize) -> u64
+// trans[u,z] inward, trans[z,u] outward.
+fn flow_between(plan: &Plan, direction: Direction, y: usize, z: usize, u: usize, s: usize) -> u64
     requires { (y < plan.now.counts.years) × ((z < plan.now.counts.zones) × ((u < plan.now.counts.zones) × (s < slices_of plan.now.counts))) }
-    ensures { result ≡ entry_of plan.now (link inward y z u s) }
+    ensures { result ≡ entry_of plan.now (link direction y z u s) }
 {
-    if inward {
-        return plan.by_link_slice(TRANS, y, u, z, s);
+    match direction {
+        Direction::Inward => plan.by_link_slice(TRANS, y, u, z, s),
+        Direction::Outward => plan.by_link_slice(TRANS, y, z, u, s),
     }
-    plan.by_link_slice(TRANS, y, z, u, s)
 }
 
 // 1000·Σ MW per line[u,z]·total[u,z] over the other zones u: what the lines built into zone z may carry.

@@ -6,7 +6,7 @@ ghost use Rattle.sums.specs.Sum.{largest};
 ghost use Rattle.model.specs.Data.{peak, most32};
 ghost use Rattle.tables.specs.Lists.{data_of};
 
-use tables::lists::{Tables, wide};
+use tables::lists::Tables;
 use tables::names::DEMAND;
 use tables::sets::slices_of;
 
@@ -23,13 +23,7 @@ fn peak_of(demand: &[u32]) -> u32
     let half = demand.len() / 2;
     let earlier = peak_of(&demand[0..half]);
     let later = peak_of(&demand[half..]);
-    larger(earlier, later)
-}
-
-fn larger(a: u32, b: u32) -> u32
-    ensures { result ≡ max a b }
-{
-    if a < b { b } else { a }
+    earlier.max(later)
 }
 
 // The largest Demand[y,z,·].
@@ -40,5 +34,5 @@ pub fn zone_peak(tables: &Tables, y: usize, z: usize) -> u64
     let n = slices_of(tables.counts);
     let from = tables.starts[DEMAND] + (y * tables.counts.zones + z) * n;
     let to = from + n;
-    wide(peak_of(&tables.list[from..to]))
+    u64::from(peak_of(&tables.list[from..to]))
 }

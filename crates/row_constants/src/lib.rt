@@ -7,14 +7,23 @@ ghost use Rattle.model.specs.Families.{row_boxes};
 ghost use Rattle.constants.specs.Constants.{constant_of};
 ghost use Rattle.tables.specs.Lists.{data_of};
 
-use tables::lists::TestedTables;
 use constants::{Constant, NONE};
-use fleet_constants::{capital_constant, fuel_use_constant, level_limit_constant, new_capacity_constant, stock_constant, system_emission_constant, yearly_build_constant, zone_emission_constant};
+use fleet_constants::{
+    capital_constant, fuel_use_constant, level_limit_constant, new_capacity_constant,
+    stock_constant, system_emission_constant, yearly_build_constant, zone_emission_constant,
+};
 use sums::Place;
-use tables::families::{BALANCE, CAPITAL, FIRM, FUEL_USE, LEVEL_LIMIT, NEW_CAPACITY, NEW_LINES, SPINNING, STOCK, SYSTEM_EMISSION, TRANSFER, YEARLY_BUILD, ZONE_EMISSION};
-use zone_constants::{balance_constant, firm_constant, new_lines_constant, spinning_constant, transfer_constant};
+use tables::families::{
+    BALANCE, CAPITAL, FIRM, FUEL_USE, LEVEL_LIMIT, NEW_CAPACITY, NEW_LINES, SPINNING, STOCK,
+    SYSTEM_EMISSION, TRANSFER, YEARLY_BUILD, ZONE_EMISSION,
+};
+use tables::lists::TestedTables;
+use zone_constants::{
+    balance_constant, firm_constant, new_lines_constant, spinning_constant, transfer_constant,
+};
 
 // The constant of row p. Its family is told by its number counted from 0.
+#[tactic(auto, unfolding(constants::specs::Constants::constant_of, model::specs::Families::row_boxes))]
 pub fn constant_at(tested: &TestedTables, p: Place) -> Constant
     requires { Member (row_boxes tested.now.tables.now.counts) (index_of p) }
     ensures { result ≡ constant_of (data_of tested.now.tables.now) (index_of p) }

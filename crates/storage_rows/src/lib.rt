@@ -20,7 +20,7 @@ use fleet_constants::level_limit_constant;
 use model::Counts;
 use parts::slices::first_hour;
 use parts::years::part_at;
-use row_sums::{Sides, at_most, empty};
+use row_sums::{Change, Sides, at_most, empty};
 use tables::names::{CAP, EFFICIENCY};
 
 // 21 (42, 43), battery: level = level[s−1] (0 before a day's first slice) + Efficiency·charge − 1000·gen
@@ -66,14 +66,14 @@ pub fn charge_limit(case: &Case, charges: &[u32], y: usize, g: usize, s: usize) 
 }
 
 // 23 (47), battery: the rise of charge, RampDn; 24 (48): its fall, RampUp
-pub fn charge_ramp(case: &Case, charges: &[u32], rate: usize, falls: bool, y: usize, g: usize, s: usize) -> Sides
+pub fn charge_ramp(case: &Case, charges: &[u32], rate: usize, change: Change, y: usize, g: usize, s: usize) -> Sides
     requires { (EntryAt table_sets case.now.plan.counts rate [g] 0 g 0 0 × YearPart case.now.plan.list.now charges.now case.now.plan.counts charge_kind y) × ((y < case.now.plan.counts.years) × ((g < case.now.plan.counts.plants) × (s < slices_of case.now.plan.counts))) }
-    ensures { result ≡ terms_of (only (is_battery (data_of case.now.tables) g) (ramp_of (data_of case.now.tables) ((data_of case.now.tables).entry rate 0 g 0 0) charge_kind falls y g s)) (entry_of case.now.plan) }
+    ensures { result ≡ terms_of (only (is_battery (data_of case.now.tables) g) (ramp_of (data_of case.now.tables) ((data_of case.now.tables).entry rate 0 g 0 0) charge_kind change y g s)) (entry_of case.now.plan) }
 {
     if !case.tables.is_battery(g) {
         return empty();
     }
-    ramp(case, charges, rate, falls, y, g, s)
+    ramp(case, charges, rate, change, y, g, s)
 }
 
 // 25 (46): battery: level ≤ energy capacity; any other plant: level ≤ 0

@@ -18,8 +18,7 @@ ghost use Rattle.tables.specs.Lists.{data_of, entry_of};
 
 use tables::lists::{Case, TestedTables};
 use capped::Sum;
-use links::{INWARD, OUTWARD, flows, lines_into, received};
-use parts::slices::long;
+use links::{Direction, flows, lines_into, received};
 use row_sums::{Sides, with_constant};
 use tables::names::{ERR, FIRMSHORT, MW_PER_LINE, SPINSHORT, SURPLUS, TOTAL_LINES, TRANS, UNMET};
 use terms::plants::{credit_sum, vre_sum, zone_sum};
@@ -32,7 +31,7 @@ pub fn balance(case: &Case, outputs: &[u32], charges: &[u32], scale: u64, y: usi
 {
     let arrived = received(case, y, z, s);
     let above = in_zone(case, outputs, arrived, UNMET, y, z, s);
-    let sent = flows(&case.plan, OUTWARD, y, z, s);
+    let sent = flows(&case.plan, Direction::Outward, y, z, s);
     let below = in_zone(case, charges, sent, SURPLUS, y, z, s);
     with_constant(
         above,
@@ -48,7 +47,7 @@ fn in_zone(case: &Case, part: &[u32], links: Sum, kind: usize, y: usize, z: usiz
     ensures { (k m : ℕ) → YearPart case.now.plan.list.now part.now case.now.plan.counts k y → links ≡ cap m
         → result ≡ cap (sum case.now.plan.counts.plants (λ g. on (eqb (zone (data_of case.now.tables) g) z) (1000 * entry_of case.now.plan (index k y g 0 s))) + m + 1 * entry_of case.now.plan (index kind y z 0 s)) }
 {
-    let plants = zone_sum(&case.tables, part, long(z), s);
+    let plants = zone_sum(&case.tables, part, z as u64, s);
     capped::add_product(
         capped::join(plants, links),
         1,
@@ -83,7 +82,7 @@ pub fn spinning(case: &Case, outputs: &[u32], reserves: &[u32], scale: u64, y: u
     requires { (YearPart case.now.plan.list.now outputs.now case.now.plan.counts gen_kind y × YearPart case.now.plan.list.now reserves.now case.now.plan.counts reserve_kind y) × ((y < case.now.plan.counts.years) × ((z < case.now.plan.counts.zones) × (s < slices_of case.now.plan.counts))) }
     ensures { result ≡ sides_of (data_of case.now.tables) scale (entry_of case.now.plan) (row 3 y z 0 s) }
 {
-    let held = zone_sum(&case.tables, reserves, long(z), s);
+    let held = zone_sum(&case.tables, reserves, z as u64, s);
     let with_short = capped::add_product(
         held,
         1,
@@ -95,8 +94,8 @@ pub fn spinning(case: &Case, outputs: &[u32], reserves: &[u32], scale: u64, y: u
     );
     let err = case.tables.single(ERR);
     let below = capped::join(
-        flows(&case.plan, INWARD, y, z, s),
-        vre_sum(&case.tables, outputs, long(z), err, s),
+        flows(&case.plan, Direction::Inward, y, z, s),
+        vre_sum(&case.tables, outputs, z as u64, err, s),
     );
     with_constant(
         above,
@@ -111,7 +110,7 @@ pub fn firm(case: &Case, scale: u64, y: usize, z: usize) -> Sides
     requires { (entries_fault (data_of case.now.tables) ≡ fine) × ((y < case.now.plan.counts.years) × (z < case.now.plan.counts.zones)) }
     ensures { result ≡ sides_of (data_of case.now.tables) scale (entry_of case.now.plan) (row 4 y z 0 0) }
 {
-    let credit = credit_sum(case, y, long(z));
+    let credit = credit_sum(case, y, z as u64);
     let above = capped::add_product(
         credit,
         1,

@@ -8,7 +8,6 @@ use Rattle.dispatch_rows.proofs.loading.Goals as goal
 pub returns : goal.returns
 unfolding sides_of
 returns c N =
-    let p = c.requires in
     let hg = c.requires.1.1.0 in
     let hs = c.requires.1.1.1 in
     plain N _ _

@@ -11,7 +11,6 @@ returns-then-not-is_vre c N = rw (← c.is_vre.ensures, c.if-not-is_vre.true) (p
 pub returns : goal.returns
 unfolding sides_of
 returns c N =
-    let p = c.requires in
     rw (← c.is_vre.ensures, c.if-not-is_vre.false)
     (plain N _ _
     (two-sums _ _ (product_is c.rate_of_capacity.ensures c.by_plant_slice-rate.ensures.0 refl)

@@ -1,3 +1,4 @@
+use Rattle.capped.specs.Cap.{Sum}
 use mathlib.Core.Path.{◌≡◌}
 use mathlib.Core.List.{List}
 use Prim.Native.Nat.{ℕ, ◌+◌, ◌*◌, ◌-◌, ◌≤◌}
@@ -8,7 +9,7 @@ use Rattle.energy_table.proofs.Laws.{season_energy, Filled}
 use Rattle.energy_table.proofs.fill_energies.Given as goal
 
 -- Each loop keeps the number of the next year, plant and season in `place`, and every number below it filled.
-abbrev pub UpTo : List ℕ → List ℕ → Counts → List (List ℕ) → ℕ → Type 0
+abbrev pub UpTo : List ℕ → List ℕ → Counts → List Sum → ℕ → Type 0
 UpTo «data» plan c energy place = Filled (season_energy (read «data») (plan_entry c plan)) c.plants c.seasons energy place
 
 abbrev pub invariant-loop-q : goal.invariant-loop-q

@@ -25,7 +25,6 @@ loop-s-init c = begin
 
 pub add_term-t-requires : goal.add_term-t-requires
 add_term-t-requires c =
-    let p = c.requires in
     let k = c.loop-k-test.true in
     let m = walked-member _ _ c.walked_box-b.ensures k c.loop-y-test.true c.loop-i-test.true c.loop-j-test.true c.loop-s-test.true in
     (c.args.pricing.now.tested.tables.now.laid_out, (c.args.pricing.now.tested.tested, (c.args.pricing.now.multipliers.laid_out, m)))
@@ -55,5 +54,4 @@ loop-k-preserved c =
 
 pub returns : goal.returns
 returns c =
-    let p = c.requires in
     all-terms _ _ c.args.pricing.now.tested.tables.now.laid_out.counts (rw (c.zero.ensures, c.zero-2.ensures)) c.loop-k.invariant c.loop-k-test.false

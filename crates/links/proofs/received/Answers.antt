@@ -10,7 +10,7 @@ pub loop-u-preserved : goal.loop-u-preserved
 loop-u-preserved c =
     let h = c.loop-u.invariant in
     let loss-is = c.by_link.ensures.0 in
-    let kept-is = c.kept_of-kept.ensures in
+    let kept-is = c.saturating_sub-kept.ensures in
     let flow-is = c.by_link_slice-flow.ensures.0 in
     summed-more h c.loop-u-test.true (c.add_product_if-total.ensures ∙ rw (h.is, kept-is, loss-is, flow-is, plus-on))
 

@@ -31,25 +31,21 @@ loop-y-init c = none c.walk.invariant.accepted
 
 pub year_part-outputs-requires : goal.year_part-outputs-requires
 year_part-outputs-requires c =
-    let p = c.requires in
     let hy = year-below _ c.walk-test.true c.family_at-f.ensures c.box_of-b.ensures.0 c.args.case.now.tables.laid_out.counted c.loop-y-test.true in
     part-asked c.args.case.now.tables.laid_out.counted c.args.case.now.plan.laid_out hy (places-are c.args.case.now.plan.counts c.slices_of.ensures.0) gen_kind (omega arith) refl
 
 pub year_part-reserves-requires : goal.year_part-reserves-requires
 year_part-reserves-requires c =
-    let p = c.requires in
     let hy = year-below _ c.walk-test.true c.family_at-f.ensures c.box_of-b.ensures.0 c.args.case.now.tables.laid_out.counted c.loop-y-test.true in
     part-asked c.args.case.now.tables.laid_out.counted c.args.case.now.plan.laid_out hy (places-are c.args.case.now.plan.counts c.slices_of.ensures.0) reserve_kind (omega arith) refl
 
 pub year_part-charges-requires : goal.year_part-charges-requires
 year_part-charges-requires c =
-    let p = c.requires in
     let hy = year-below _ c.walk-test.true c.family_at-f.ensures c.box_of-b.ensures.0 c.args.case.now.tables.laid_out.counted c.loop-y-test.true in
     part-asked c.args.case.now.tables.laid_out.counted c.args.case.now.plan.laid_out hy (places-are c.args.case.now.plan.counts c.slices_of.ensures.0) charge_kind (omega arith) refl
 
 pub year_part-levels-requires : goal.year_part-levels-requires
 year_part-levels-requires c =
-    let p = c.requires in
     let hy = year-below _ c.walk-test.true c.family_at-f.ensures c.box_of-b.ensures.0 c.args.case.now.tables.laid_out.counted c.loop-y-test.true in
     part-asked c.args.case.now.tables.laid_out.counted c.args.case.now.plan.laid_out hy (places-are c.args.case.now.plan.counts c.slices_of.ensures.0) level_kind (omega arith) refl
 

@@ -119,7 +119,6 @@ new_lines-requires c = let m = inside-at _ c.in-26.is c.requires.1.1 in (search 
 pub lines_both_ways-requires : goal.lines_both_ways-requires
 unfolding family_of
 lines_both_ways-requires c =
-    let p = c.requires in
     let m = inside-at _ (last_arm (family_count - 1) c.requires.1.0 c.in_default.in_default-own.rest) c.requires.1.1 in (search rules, search rules)
 
 pub returns-in-0 : goal.returns-in-0
@@ -149,13 +148,11 @@ returns-in-5 c = rw c.in-5.is (c.offer.ensures _)
 pub returns-in-6 : goal.returns-in-6
 unfolding sides_of
 returns-in-6 c =
-    let p = c.requires in
     rw c.in-6.is (plain-under _ _ _ _ (c.ramp.ensures _ c.requires.0.outputs))
 
 pub returns-in-7 : goal.returns-in-7
 unfolding sides_of
 returns-in-7 c =
-    let p = c.requires in
     rw c.in-7.is (plain-under _ _ _ _ (c.ramp-in-7.ensures _ c.requires.0.outputs))
 
 pub returns-in-8 : goal.returns-in-8

@@ -14,7 +14,6 @@ returns-then-not-is_battery c plan os cs ls N = rw (← c.is_battery.ensures, c.
 pub returns : goal.returns
 unfolding sides_of
 returns c plan os cs ls N =
-    let p = c.requires in
     let s = c.args.s in
     let hg = c.requires.1.0 in
     let hs = c.requires.1.1 in

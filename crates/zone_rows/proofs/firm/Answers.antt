@@ -8,6 +8,6 @@ pub returns : goal.returns
 unfolding sides_of constant_of
 returns c =
     let n = c.args.case.now.tables.laid_out.counts in
-    rw n
+    rw (n, ← c.args.case.now.same_counts)
     (constant _ _ _ c.with_constant.ensures (rw n at c.firm_constant.ensures)
-    (plus-is _ c.add_product-above.ensures (c.credit_sum-credit.ensures ∙ rw c.long.ensures) refl c.by_year_zone.ensures.0) c.zero.ensures)
+    (plus-is _ c.add_product-above.ensures c.credit_sum-credit.ensures refl c.by_year_zone.ensures.0) c.zero.ensures)

@@ -11,18 +11,17 @@ use borrow.Author.Rules.{rules}
 use Rattle.zone_rows.proofs.spinning.Goals as goal
 
 pub flows-requires : goal.flows-requires
-flows-requires c = let p = c.requires in search rules
+flows-requires c = search rules
 
 pub vre_sum-requires : goal.vre_sum-requires
-vre_sum-requires c = let p = c.requires in search rules
+vre_sum-requires c = search rules
 
 pub spinning_constant-requires : goal.spinning_constant-requires
-spinning_constant-requires c = let p = c.requires in search rules
+spinning_constant-requires c = search rules
 
 pub returns : goal.returns
 unfolding sides_of constant_of
 returns c =
-    let p = c.requires in
     let n = c.args.case.now.tables.laid_out.counts in
     let hs = c.requires.1.1.1 in
     let D = read c.args.case.now.tables.list.now in

@@ -13,7 +13,7 @@ use Rattle.energy.proofs.totals.burned.Given as goal
 abbrev pub burns : List ℕ → ℕ → ℕ → ℕ → Bool
 burns «data» z f g = eqb (zone (read «data») g) z && eqb (fuel (read «data») g) f
 
-abbrev pub burned_by : List ℕ → Counts → List (List ℕ) → ℕ → ℕ → Sum
+abbrev pub burned_by : List ℕ → Counts → List Sum → ℕ → ℕ → Sum
 burned_by «data» c energy y g = year_energy c energy (heat_rate (read «data») g) y g
 
 abbrev pub invariant-loop-g : goal.invariant-loop-g

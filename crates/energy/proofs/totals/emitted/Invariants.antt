@@ -8,7 +8,7 @@ use Rattle.energy.specs.Energies.{all_of, year_energy}
 use Rattle.energy.proofs.totals.emitted.Given as goal
 
 -- what plant g adds
-abbrev pub emitted_by : List ℕ → Counts → List (List ℕ) → ℕ → ℕ → Sum
+abbrev pub emitted_by : List ℕ → Counts → List Sum → ℕ → ℕ → Sum
 emitted_by «data» c energy y g = year_energy c energy (emission (read «data») g) y g
 
 abbrev pub invariant-loop-g : goal.invariant-loop-g

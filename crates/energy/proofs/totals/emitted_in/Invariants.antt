@@ -13,7 +13,7 @@ use Rattle.energy.proofs.totals.emitted_in.Given as goal
 abbrev pub lies : List ℕ → ℕ → ℕ → Bool
 lies «data» z g = eqb (zone (read «data») g) z
 
-abbrev pub emitted_by : List ℕ → Counts → List (List ℕ) → ℕ → ℕ → Sum
+abbrev pub emitted_by : List ℕ → Counts → List Sum → ℕ → ℕ → Sum
 emitted_by «data» c energy y g = year_energy c energy (emission (read «data») g) y g
 
 abbrev pub invariant-loop-g : goal.invariant-loop-g
