@@ -9,7 +9,6 @@ use Rattle.texts.specs.Claims.{bytes}
 use Rattle.text_answers.specs.Format.{scale_in, BindsText}
 use Rattle.answer_line.specs.Line.{line_of}
 use Rattle.writer.specs.Writing.{room}
-use Rattle.explanations.specs.declared.Explanation.{Explanation}
 use Rattle.plain_words.specs.Plain.{scale_taken}
 use Rattle.answer_words.specs.Answers.{sentence}
 
@@ -32,9 +31,8 @@ explain_text input = explanation_of (text_of input)
 abbrev pub LineBinds : List ℕ → Type 0
 LineBinds input = (a : Certificate) × ((rest : List ℕ) × ((explain_text input ≡ line_of a ++ rest) × BindsText input a))
 
--- the bytes that are used are the explanation, as far as there is room
-pub record Explains (input : List ℕ) (e : Explanation) : Type 0 where
-  pub whole-line : length e.bytes ≡ room
-  pub within : e.used ≤ room
-  pub held : take e.used e.bytes ≡ take room (explain_text input)
+-- the bytes are the explanation, as far as there is room
+pub record Explains (input : List ℕ) (explanation : List ℕ) : Type 0 where
+  pub within : length explanation ≤ room
+  pub held : explanation ≡ take room (explain_text input)
   pub binds : LineBinds input
