@@ -1,4 +1,5 @@
 -- Laws of post after check: its two ways on, the board's test, and the year's outputs.
+use Rattle.std.specs.Prelude.{Result, Ok, Err}
 use mathlib.Core.Path.{◌≡◌, refl, sym, ◌∙◌, ap}
 use mathlib.Core.Bool.{Bool, true, false, ◌&&◌}
 use Prim.Native.Nat.{ℕ, ◌+◌, ◌*◌, ◌-◌, ◌≤◌, ◌<◌}
@@ -10,8 +11,6 @@ use lib.ListN.{take, drop}
 use mathlib.Core.List.{List}
 use Rattle.sums.specs.Span.{Fault}
 use Rattle.sums.specs.Index.{start}
-use Rattle.model.specs.declared.Answer.{Answer}
-use Rattle.model.specs.declared.Answer.TheVariants.{Accepted, Refused}
 use Rattle.model.specs.declared.Refusal.{Refusal}
 use Rattle.model.specs.Data.{Data}
 use Rattle.model.specs.Columns.{column_boxes}
@@ -29,12 +28,12 @@ use Rattle.boards.specs.Boards.{after, board_after_check}
 
 -- the two ways on from check's answer
 
-module _ (a : Answer) (f : Fault Refusal) (old new : List ℕ) where
-  pub kept-after : {r : Refusal} → a ≡ Refused r → (Refused r ≡ after a f) × (old ≡ board_after_check a f old new)
+module _ (a : Result ℕ Refusal) (f : Fault Refusal) (old new : List ℕ) where
+  pub kept-after : {r : Refusal} → a ≡ Err r → (Err r ≡ after a f) × (old ≡ board_after_check a f old new)
   unfolding after board_after_check
   kept-after e = rw e (refl, refl)
 
-  pub put-by-test : {b : Answer} {last : List ℕ} {c : ℕ} → a ≡ Accepted c → b ≡ answer f c → last ≡ board_after f old new → (b ≡ after a f) × (last ≡ board_after_check a f old new)
+  pub put-by-test : {b : Result ℕ Refusal} {last : List ℕ} {c : ℕ} → a ≡ Ok c → b ≡ answer f c → last ≡ board_after f old new → (b ≡ after a f) × (last ≡ board_after_check a f old new)
   unfolding after board_after_check
   put-by-test e p q = rw e (p, q)
 
@@ -70,10 +69,10 @@ pub some-places : {c : Counts} {n : ℕ} → Counted c → n ≡ slices_of c →
 some-places k q = rw q (mul-pos k.some_plants (mul-pos (mul-pos k.some_seasons k.some_days) k.some_hours))
 
 module _ (f : Fault Refusal) (b : Bool) (c : ℕ) (old new : List ℕ) (e : f ≡ unless b Board) where
-  pub board-refused : b ≡ false → (Refused Board ≡ answer f c) × (old ≡ board_after f old new)
+  pub board-refused : b ≡ false → (Err Board ≡ answer f c) × (old ≡ board_after f old new)
   unfolding unless
   board-refused h = rw (e, h) (refl, refl)
 
-  pub board-written : {last : List ℕ} → b ≡ true → last ≡ new → (Accepted c ≡ answer f c) × (last ≡ board_after f old new)
+  pub board-written : {last : List ℕ} → b ≡ true → last ≡ new → (Ok c ≡ answer f c) × (last ≡ board_after f old new)
   unfolding unless
   board-written h q = rw (e, h) (refl, q)

@@ -12,7 +12,7 @@ ghost use Rattle.model.specs.Calls.{answer, board_after, replaced, year_outputs}
 ghost use Rattle.boards.specs.Boards.{after, board_after_check};
 
 use data_tests::counts_of;
-use model::{Answer, Refusal};
+use model::{Refusal};
 use parts::board::replace;
 use parts::years::year_part;
 use plan_tests::board_fits;
@@ -28,7 +28,7 @@ fn put_year(
     board: &mut [u32],
     start: usize,
     cost: u64,
-) -> Answer
+) -> Result<u64, Refusal>
     requires { (data_fault «data».now ≡ fine) × (length plan.now ≡ count (column_boxes (read «data».now).counts)) }
     ensures { (result ≡ answer (board_fault (read «data».now) year (length board.old) start) cost)
         × (board.new ≡ board_after (board_fault (read «data».now) year (length board.old) start) board.old
@@ -38,10 +38,10 @@ fn put_year(
     let columns_at = column_starts(c);
     let places = c.plants * slices_of(c);
     if !board_fits(c.years, year, board.len(), start, places) {
-        return Answer::Refused(Refusal::Board);
+        return Err(Refusal::Board);
     }
     replace(board, start, year_part(plan, columns_at[GEN], places, year));
-    Answer::Accepted(cost)
+    Ok(cost)
 }
 
 // Once check has answered: what it refused leaves the board alone, what it accepted goes by refusal 14.
@@ -52,14 +52,14 @@ pub fn put_after(
     year: usize,
     board: &mut [u32],
     start: usize,
-) -> Answer
+) -> Result<u64, Refusal>
     requires { (cost : ℕ) → checked ≡ Accepted cost → (data_fault «data».now ≡ fine) × (length plan.now ≡ count (column_boxes (read «data».now).counts)) }
     ensures { (result ≡ after checked (board_fault (read «data».now) year (length board.old) start))
         × (board.new ≡ board_after_check checked (board_fault (read «data».now) year (length board.old) start) board.old
         (replaced board.old start (year_outputs (read «data».now) plan.now year))) }
 {
     match checked {
-        Answer::Refused(r) => Answer::Refused(r),
-        Answer::Accepted(cost) => put_year(data, plan, year, board, start, cost),
+        Err(r) => Err(r),
+        Ok(cost) => put_year(data, plan, year, board, start, cost),
     }
 }

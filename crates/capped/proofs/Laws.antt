@@ -9,13 +9,11 @@ use Prim.Native.Nat.{ℕ, ◌+◌, ◌*◌, ◌-◌, ◌^◌, ◌<◌, ◌≤◌
 use native.Mathlib.Nat.{add-zero, mul-zero, lt_of_lt_of_le, le-mul_of_pos_right, eq-zero-or-pos, mul_comm}
 use native.Mathlib.Omega.{arith}
 use lib.Dec.{leb}
-use lib.ListN.{get_or}
 use borrow.Author.Tests.{le-leb, lt-leb, leb-true, leb-false, ne_eqb}
 use Rattle.lengths.specs.Length.{bit_length}
 use Rattle.lengths.proofs.Laws.{length-least}
-use Rattle.capped.specs.declared.Sum.{Sum}
-use Rattle.capped.specs.declared.Sum.TheVariants.{Exact, Over}
-use Rattle.capped.specs.Cap.{straight, half, limit, cap, plus, plus_if, both, times, times_both, kept_as, kept_sum}
+use Rattle.std.specs.Prelude.{Some, None}
+use Rattle.capped.specs.Cap.{Sum, straight, half, limit, cap, plus, plus_if, both, times, times_both}
 
 pub le-or-lt : (m n : ℕ) → (m ≤ n) ⊎ (n < m)
 le-or-lt m n = go (leb m n) refl
@@ -30,21 +28,21 @@ pub limit-least : 2 ^ 62 - 1 ≤ limit
 unfolding limit
 limit-least = omega arith
 
-pub cap-low : (n : ℕ) → n ≤ limit → cap n ≡ Exact n
+pub cap-low : (n : ℕ) → n ≤ limit → cap n ≡ Some n
 unfolding cap
 cap-low n h = rw (le-leb n limit h)
 
-pub cap-high : (n : ℕ) → limit < n → cap n ≡ Over
+pub cap-high : (n : ℕ) → limit < n → cap n ≡ None
 unfolding cap
 cap-high n h = rw (lt-leb n limit h)
 
-pub cap-zero : cap 0 ≡ Exact 0
+pub cap-zero : cap 0 ≡ Some 0
 cap-zero = cap-low 0 zero-le
 
 -- The two ways in which a sum is `cap n`. Most laws go by cases on them.
 pub data Capped (n : ℕ) : Sum → Type 0 where
-  low : n ≤ limit → Capped n (Exact n)
-  high : limit < n → Capped n Over
+  low : n ≤ limit → Capped n (Some n)
+  high : limit < n → Capped n None
 
 pub capped : (n : ℕ) → Capped n (cap n)
 capped n =
@@ -66,15 +64,15 @@ plus-zero m = plus-cap m 0 ∙ ap cap (add-zero m)
 -- This and `both-plus` hold of every sum, also of one that is no `cap`.
 pub plus-plus : (s : Sum) (m n : ℕ) → plus (plus s m) n ≡ plus s (m + n)
 unfolding plus
-plus-plus (Exact v) m n = plus-cap (v + m) n ∙ ap cap (omega arith)
-plus-plus Over m n = refl
+plus-plus (Some v) m n = plus-cap (v + m) n ∙ ap cap (omega arith)
+plus-plus None m n = refl
 
 -- What the code of `add` finds.
-pub low-add : {s : Sum} {v : ℕ} (n : ℕ) → s ≡ Exact v → v + n ≤ limit → Exact (v + n) ≡ plus s n
+pub low-add : {s : Sum} {v : ℕ} (n : ℕ) → s ≡ Some v → v + n ≤ limit → Some (v + n) ≡ plus s n
 unfolding plus
 low-add {s} {v} n e h = rw e (sym (cap-low (v + n) h))
 
-pub high-add : {s : Sum} {v : ℕ} (n : ℕ) → s ≡ Exact v → limit < v + n → Over ≡ plus s n
+pub high-add : {s : Sum} {v : ℕ} (n : ℕ) → s ≡ Some v → limit < v + n → None ≡ plus s n
 unfolding plus
 high-add {s} {v} n e h = rw e (sym (cap-high (v + n) h))
 
@@ -84,8 +82,8 @@ both-plus s n = go s (capped n)
   where
     go : (s : Sum) {t : Sum} → Capped n t → both s t ≡ plus s n
     go s (low h) = refl
-    go (Exact v) (high h) = sym (cap-high (v + n) (omega arith))
-    go Over (high h) = refl
+    go (Some v) (high h) = sym (cap-high (v + n) (omega arith))
+    go None (high h) = refl
 
 pub both-cap : (m n : ℕ) → both (cap m) (cap n) ≡ cap (m + n)
 both-cap m n = both-plus (cap m) n ∙ plus-cap m n
@@ -114,14 +112,14 @@ small-lengths a b e t = go (leb a half) (leb b half) refl refl (sym e ∙ t)
 
 pub times_zero : (s : Sum) → times s 0 ≡ cap 0
 unfolding times
-times_zero (Exact v) = ap cap (mul-zero v)
-times_zero Over = refl
+times_zero (Some v) = ap cap (mul-zero v)
+times_zero None = refl
 
 -- What the code of `scale` finds.
-pub zero-scale : (s : Sum) (n : ℕ) → n ≡ 0 → Exact 0 ≡ times s n
+pub zero-scale : (s : Sum) (n : ℕ) → n ≡ 0 → Some 0 ≡ times s n
 zero-scale s n z = rw (z, times_zero, cap-zero)
 
-pub times-over : (n : ℕ) → (n ≡ 0 → ⊥) → times Over n ≡ Over
+pub times-over : (n : ℕ) → (n ≡ 0 → ⊥) → times None n ≡ None
 unfolding times
 times-over n h = rw (ne_eqb n 0 h)
 
@@ -143,16 +141,6 @@ times-both m n = go (capped m) (capped n)
     go (high h) (low k) = rw (← cap-high m h) (times-cap m n)
     go (low h) (high k) = rw (← cap-high n k) (times-cap n m ∙ ap cap (mul_comm n m))
     go (high h) (high k) = sym (cap-high (m * n) (lt_of_lt_of_le h (le-mul_of_pos_right m (omega arith))))
-
--- A sum that was stored comes back
-
-pub kept-cap : (n : ℕ) → kept_sum (kept_as (cap n)) ≡ cap n
-unfolding kept_as kept_sum
-kept-cap n = go (capped n)
-  where
-    go : {s : Sum} → Capped n s → cap (get_or (kept_as s) 0 0) ≡ s
-    go (low h) = cap-low n h
-    go (high h) = cap-high (limit + 1) (omega arith)
 
 -- A term under a test
 

@@ -1,13 +1,12 @@
 // Capped sums: a sum of natural numbers that is exact up to 2^62 - 1, or known to be above it.
 //
-// The crates above hold a `Sum`, and never match on one: they add to it by the functions below, and compare it and ask for its value by those of `compared`.
+// The crates above add to a `Sum` by the functions below, and compare two by those of `compared`.
 // Each function says its result by one equation over `specs/Cap.antt`, for every input; `proofs/Laws.antt` has the laws that callers cite.
 #![tactic(auto)]
 
 ghost use Rattle.std.specs.Prelude.{◌≡◌, ◌&&◌, ◌+◌, ◌*◌, leb};
 ghost use Rattle.lengths.specs.Length.{bit_length};
-ghost use Rattle.capped.specs.declared.Sum.TheVariants.{Exact};
-ghost use Rattle.capped.specs.Cap.{half, straight, cap, plus, plus_if, both, times, times_both, kept_as, kept_sum};
+ghost use Rattle.capped.specs.Cap.{half, straight, cap, plus, plus_if, both, times, times_both};
 
 // The largest total that a capped sum holds, 2^62 - 1: `limit` in the specs.
 pub const LIMIT: u64 = 0x3fff_ffff_ffff_ffff;
@@ -21,54 +20,43 @@ const HALF: u64 = 0x7fff_ffff;
 // The bits of a word.
 const WORD: u32 = 64;
 
-#[derive(Clone, Copy)]
-pub enum Sum {
-    Exact(u64),
-    Over,
-}
-
-// A sum as it is stored in an array, since an array of enums cannot be lent. Its form is known to this crate alone: `keep` makes one, `sum_kept` reads the sum back.
-pub type Kept = [u64; 1];
+// The exact sum, or none where it is above the limit.
+pub type Sum = Option<u64>;
 
 pub fn zero() -> Sum
     ensures { result ≡ cap 0 }
 {
-    Sum::Exact(0)
+    Some(0)
 }
 
 pub fn of(n: u64) -> Sum
     ensures { result ≡ cap n }
 {
     if n > LIMIT {
-        return Sum::Over;
+        return None;
     }
-    Sum::Exact(n)
+    Some(n)
 }
 
 pub fn add(s: Sum, n: u64) -> Sum
     ensures { result ≡ plus s n }
 {
-    let Sum::Exact(v) = s else {
-        return Sum::Over;
-    };
+    let v = s?;
     // No function here makes an exact sum above the limit, but a caller can: without this test `LIMIT - v` could wrap.
     if v > LIMIT {
-        return Sum::Over;
+        return None;
     }
     if n > LIMIT - v {
-        return Sum::Over;
+        return None;
     }
-    Sum::Exact(v + n)
+    Some(v + n)
 }
 
 // The sum of two sums.
 pub fn join(s: Sum, t: Sum) -> Sum
     ensures { result ≡ both s t }
 {
-    let Sum::Exact(n) = t else {
-        return Sum::Over;
-    };
-    add(s, n)
+    add(s, t?)
 }
 
 // Whether two factors are so small that their lengths add up to 62 or less, whatever they are: each at most HALF.
@@ -96,7 +84,7 @@ pub fn product(a: u64, b: u64) -> Sum
     ensures { result ≡ cap (a * b) }
 {
     if lengths_fit(a, b) {
-        return Sum::Exact(a * b);
+        return Some(a * b);
     }
     long_product(a, b)
 }
@@ -109,7 +97,7 @@ fn long_product(a: u64, b: u64) -> Sum
     if lengths::together(a, b) <= WORD {
         return of(a * b);
     }
-    Sum::Over
+    None
 }
 
 // `n` times a sum. A zero factor gives 0, also of a sum that is over.
@@ -117,12 +105,9 @@ pub fn scale(s: Sum, n: u64) -> Sum
     ensures { result ≡ times s n }
 {
     if n == 0 {
-        return Sum::Exact(0);
+        return Some(0);
     }
-    let Sum::Exact(v) = s else {
-        return Sum::Over;
-    };
-    product(v, n)
+    product(s?, n)
 }
 
 // The product of two sums. A factor of 0 gives 0, also where the other is over.
@@ -130,11 +115,8 @@ pub fn multiply(s: Sum, t: Sum) -> Sum
     ensures { result ≡ times_both s t }
 {
     match t {
-        Sum::Exact(n) => scale(s, n),
-        Sum::Over => match s {
-            Sum::Exact(v) => scale(t, v),
-            Sum::Over => Sum::Over,
-        },
+        Some(n) => scale(s, n),
+        None => scale(t, s?),
     }
 }
 
@@ -156,21 +138,6 @@ pub fn add_product3(s: Sum, a: u64, b: u64, c: u64) -> Sum
     ensures { result ≡ plus s (a * b * c) }
 {
     join(s, scale(product(a, b), c))
-}
-
-pub fn keep(s: Sum) -> Kept
-    ensures { result ≡ kept_as s }
-{
-    match s {
-        Sum::Exact(v) => [v],
-        Sum::Over => [LIMIT + 1],
-    }
-}
-
-pub fn sum_kept(k: Kept) -> Sum
-    ensures { result ≡ kept_sum k }
-{
-    of(k[0])
 }
 
 // A product added where a test holds: a loop with this call has one way through.

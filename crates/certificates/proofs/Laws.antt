@@ -1,4 +1,6 @@
 -- The stages of certify beside a cost, joined.
+use Rattle.model.specs.declared.Certificate.{Certificate}
+use Rattle.std.specs.Prelude.{Result, Ok, Err}
 use mathlib.Core.Path.{◌≡◌, sym, ◌∙◌}
 use Prim.Native.Nat.{ℕ, ◌-◌}
 use borrow.Author.Tests.{eqb-true}
@@ -7,16 +9,11 @@ use lib.ListN.{length}
 use mathlib.Core.List.{List}
 use Rattle.sums.specs.Span.{Fault, or_else}
 use Rattle.sums.specs.Index.{count}
-use Rattle.model.specs.declared.Certificate.{Certificate}
-use Rattle.model.specs.declared.Certificate.TheVariants.{Withheld}
-use Rattle.model.specs.declared.Outcome.{Outcome}
-use Rattle.model.specs.declared.Outcome.TheVariants.{Fine, Fails}
 use Rattle.model.specs.declared.Refusal.{Refusal}
 use Rattle.model.specs.Data.{Data}
 use Rattle.model.specs.Prices.{cost}
 use Rattle.model.specs.Tests.{multiplier_count_fault, multipliers_fault, columns_fault, gap_fault, dual_fault, gap}
-use Rattle.model.specs.Calls.{certificate}
-use Rattle.tables.specs.Layout.{outcome}
+use Rattle.model.specs.Calls.{certificate, outcome}
 use Rattle.sums.proofs.Spans.{or_else-fine}
 use Rattle.model.specs.Families.{row_boxes}
 use Rattle.model.proofs.Sound.{passed}
@@ -33,17 +30,17 @@ module _ (D : Data) (ms : List ℤ) (N cost : ℕ) where
   unfolding dual_fault
   stages = sym (in_two (multiplier_count_fault D ms) (multipliers_fault D ms) rest)
 
-  pub multipliers-refused : {o : Outcome} {r : Refusal} → o ≡ outcome multiplier_tests → o ≡ Fails r → Withheld r ≡ certificate (dual_fault D ms N) cost (gap D ms N cost)
+  pub multipliers-refused : {o : Result (Unit {0}) Refusal} {r : Refusal} → o ≡ outcome multiplier_tests → o ≡ Err r → Err r ≡ certificate (dual_fault D ms N) cost (gap D ms N cost)
   multipliers-refused e q = rw (stages, refused-by multiplier_tests rest e q)
 
-  module _ {o : Outcome} (e : o ≡ outcome multiplier_tests) (q : o ≡ Fine) where
+  module _ {o : Result (Unit {0}) Refusal} (e : o ≡ outcome multiplier_tests) (q : o ≡ Ok tt) where
     pub multipliers-whole : length ms ≡ count (row_boxes D.counts)
     unfolding multiplier_count_fault
     multipliers-whole = eqb-true _ _ (passed _ _ (or_else-fine _ _ (passes e q)).0)
 
-    pub columns-refused : {p : Outcome} {r : Refusal} → p ≡ outcome (columns_fault D ms) → p ≡ Fails r → Withheld r ≡ certificate (dual_fault D ms N) cost (gap D ms N cost)
+    pub columns-refused : {p : Result (Unit {0}) Refusal} {r : Refusal} → p ≡ outcome (columns_fault D ms) → p ≡ Err r → Err r ≡ certificate (dual_fault D ms N) cost (gap D ms N cost)
     columns-refused h w = rw (stages, passed-by multiplier_tests rest (passes e q), refused-by (columns_fault D ms) (gap_fault D ms N) h w)
 
-    pub columns-passed : {p : Outcome} {v : Certificate} → p ≡ outcome (columns_fault D ms) → p ≡ Fine
+    pub columns-passed : {p : Result (Unit {0}) Refusal} {v : Result Certificate Refusal} → p ≡ outcome (columns_fault D ms) → p ≡ Ok tt
         → v ≡ certificate (gap_fault D ms N) cost (gap D ms N cost) → v ≡ certificate (dual_fault D ms N) cost (gap D ms N cost)
     columns-passed h w g = g ∙ rw (stages, passed-by multiplier_tests rest (passes e q), passed-by (columns_fault D ms) (gap_fault D ms N) (passes h w))

@@ -4,7 +4,7 @@
 ghost use Rattle.std.specs.Prelude.{◌≡◌};
 ghost use Rattle.model.specs.Calls.{code, code_of, answer_code, certificate_code};
 
-use model::{Answer, Certificate, Code, Refusal};
+use model::{Certificate, Code, Refusal};
 
 // A code with a place; no refusal has a second figure.
 fn at(number: u32, place: usize) -> Code
@@ -17,7 +17,8 @@ fn at(number: u32, place: usize) -> Code
     }
 }
 
-// The number and the place of a refusal.
+// The number and the place of a refusal. No `From`: it would have to stand in `model` beside `Code`, where each edit of a definition would check it again.
+#[tactic(auto, unfolding(model::specs::Calls::code_of))]
 pub fn code_of(refusal: Refusal) -> Code
     ensures { result ≡ code_of refusal }
 {
@@ -42,29 +43,31 @@ pub fn code_of(refusal: Refusal) -> Code
 }
 
 // What check and post answer.
-pub fn answer_code(answer: Answer) -> Code
+#[tactic(auto, unfolding(model::specs::Calls::answer_code))]
+pub fn answer_code(answer: Result<u64, Refusal>) -> Code
     ensures { result ≡ answer_code answer }
 {
     match answer {
-        Answer::Accepted(cost) => Code {
+        Ok(cost) => Code {
             number: 0,
             first: cost,
             second: 0,
         },
-        Answer::Refused(refusal) => code_of(refusal),
+        Err(refusal) => code_of(refusal),
     }
 }
 
 // What certify answers.
-pub fn certificate_code(certificate: Certificate) -> Code
-    ensures { result ≡ certificate_code certificate }
+#[tactic(auto, unfolding(model::specs::Calls::certificate_code))]
+pub fn certificate_code(answer: Result<Certificate, Refusal>) -> Code
+    ensures { result ≡ certificate_code answer }
 {
-    match certificate {
-        Certificate::Issued(cost, gap) => Code {
+    match answer {
+        Ok(certificate) => Code {
             number: 0,
-            first: cost,
-            second: gap,
+            first: certificate.cost,
+            second: certificate.gap,
         },
-        Certificate::Withheld(refusal) => code_of(refusal),
+        Err(refusal) => code_of(refusal),
     }
 }

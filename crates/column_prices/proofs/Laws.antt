@@ -5,8 +5,7 @@ use mathlib.Core.List.{List, [], ◌∷◌}
 use Prim.Native.Nat.{ℕ, ◌*◌, ◌<◌}
 use native.Mathlib.Nat.{mul-one, mul_comm, mul_left_comm}
 use native.Mathlib.Omega.{arith}
-use Rattle.capped.specs.declared.Sum.{Sum}
-use Rattle.capped.specs.Cap.{cap, times}
+use Rattle.capped.specs.Cap.{cap, times, Sum}
 use Rattle.capped.proofs.Laws.{times-cap}
 use Rattle.sums.specs.declared.Place.{Place}
 use Rattle.sums.specs.Index.{index, index_of, box, box_of}
@@ -68,6 +67,8 @@ others-hourly =
 -- what the last arm of a `match` over the others knows
 pub rest-hourly : (k : ℕ) → k < column_kind_count → NoneAmong (Unit {0}) by_unit k → Hourly k
 rest-hourly k l h = others-hourly k l (none-among k by_unit h).1
+
+pub ruleset column_laws = (by-hour, rest-hourly)
 
 -- a column's price is that of its unit times its hours
 module _ (D : Data) (y i j s : ℕ) where

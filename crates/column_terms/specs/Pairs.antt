@@ -1,17 +1,16 @@
 -- The terms m·a of a column by sign: the steps that make their two sums, and what the sums come to.
-use Rattle.std.specs.Prelude.{◌≡◌, Bool, true, false, List, map, ℕ, ◌+◌, ◌*◌, ◌<◌, ℤ, pos, length, get_or}
+use Rattle.std.specs.Prelude.{Bool, true, false, List, map, ℕ, ◌+◌, ◌*◌, ◌<◌, ℤ, pos, length, get_or}
 use Rattle.capped.specs.Cap.{cap, plus, both}
-use Rattle.sums.specs.Span.{fine}
 use Rattle.sums.specs.Index.{Index, number}
 use Rattle.sums.specs.Linear.{Linear, value}
 use Rattle.model.specs.declared.Counts.{Counts}
 use Rattle.model.specs.declared.Family.{Family}
-use Rattle.model.specs.Data.{Data, read}
+use Rattle.model.specs.Data.{Data}
 use Rattle.model.specs.Families.{families, row_boxes}
-use Rattle.model.specs.Tests.{priced⁺, priced⁻, entries_fault}
-use Rattle.tables.specs.Layout.{Counted, TablesAt, Inside}
+use Rattle.model.specs.Tests.{priced⁺, priced⁻}
+use Rattle.tables.specs.Layout.{Inside}
 use Rattle.duals.specs.declared.Multiplier.{Multiplier}
-use Rattle.duals.specs.Multipliers.{multiplier_of, RowsAt}
+use Rattle.duals.specs.Multipliers.{multiplier_of}
 use Rattle.column_terms.specs.declared.Pair.{Pair}
 
 -- no terms
@@ -60,14 +59,6 @@ abbrev pub family_sets : List ℕ
 family_sets = map (λ (f : Family). f.set) families
 
 -- the multiplier of row y, i, j, s of family k can be read
-pub record Row (ms : List ℤ) (rows-at : List ℕ) (c : Counts) (k y i j s : ℕ) : Type 0 where
-  pub counted : Counted c
-  pub rows_at : RowsAt ms rows-at c
+pub record RowAt (c : Counts) (k y i j s : ℕ) : Type 0 where
   pub family : k < length family_sets
   pub inside : Inside c (get_or family_sets k 0) y i j s
-
--- data that passed its tests, and a multiplier for every row
-pub record Ready (l tables-at : List ℕ) (ms : List ℤ) (rows-at : List ℕ) (c : Counts) : Type 0 where
-  pub tables_at : TablesAt l tables-at c
-  pub sound : entries_fault (read l) ≡ fine
-  pub rows_at : RowsAt ms rows-at c

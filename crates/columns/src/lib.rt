@@ -4,55 +4,41 @@
 ghost use Rattle.std.specs.Prelude.{◌≡◌};
 ghost use Rattle.sums.specs.Index.{index_of, Member};
 ghost use Rattle.model.specs.Columns.{column_boxes};
-ghost use Rattle.model.specs.Data.{read};
-ghost use Rattle.column_terms.specs.Pairs.{priced_pair, Ready};
+ghost use Rattle.column_terms.specs.Pairs.{priced_pair};
+ghost use Rattle.tables.specs.Lists.{data_of};
 
+use duals::Pricing;
 use cable_columns::{built_column, total_column};
 use capacity_columns::{build_column, cap_column, retire_column};
 use column_terms::Pair;
 use dispatch_columns::{gen_column, reserve_column};
-use duals::RowStarts;
-use model::Counts;
 use storage_columns::{charge_column, level_column};
 use sums::Place;
 use tables::families::{BALANCE, FIRM, SPINNING};
-use tables::names::{
-    BUILD, BUILT_LINES, CAP, CHARGE, FIRMSHORT, GEN, LEVEL, RESERVE, RETIRE, SPINSHORT, SURPLUS,
-    TRANS, UNMET,
-};
-use tables::starts::Starts;
+use tables::names::{BUILD, BUILT_LINES, CAP, CHARGE, FIRMSHORT, GEN, LEVEL, RESERVE, RETIRE, SPINSHORT, SURPLUS, TRANS, UNMET};
 use zone_columns::{shortfall_column, surplus_column, trans_column};
 
 // Column p, of any kind.
-pub fn column_sums(
-    data: &[u32],
-    ms: &[i64],
-    tables_at: &Starts,
-    rows_at: &RowStarts,
-    c: Counts,
-    p: Place,
-) -> Pair
-    requires { Ready «data».now tables_at.now ms.now rows_at.now c × Member (column_boxes c) (index_of p) }
-    ensures { result ≡ priced_pair (read «data».now) ms.now (index_of p) }
+pub fn column_sums(pricing: &Pricing, p: Place) -> Pair
+    requires { Member (column_boxes pricing.now.multipliers.counts) (index_of p) }
+    ensures { result ≡ priced_pair (data_of pricing.now.tested.tables.now) pricing.now.multipliers.list.now (index_of p) }
 {
     let k = p.kind;
     match k {
-        CAP => cap_column(data, ms, tables_at, rows_at, c, p.year, p.first),
-        BUILD => build_column(data, ms, tables_at, rows_at, c, p.year, p.first),
-        RETIRE => retire_column(data, ms, tables_at, rows_at, c, p.year, p.first),
-        GEN => gen_column(data, ms, tables_at, rows_at, c, p.year, p.first, p.slice),
-        RESERVE => reserve_column(data, ms, tables_at, rows_at, c, p.year, p.first, p.slice),
-        TRANS => trans_column(
-            data, ms, tables_at, rows_at, c, p.year, p.first, p.second, p.slice,
-        ),
-        UNMET => shortfall_column(ms, rows_at, c, BALANCE, p.year, p.first, p.slice),
-        SURPLUS => surplus_column(ms, rows_at, c, p.year, p.first, p.slice),
-        SPINSHORT => shortfall_column(ms, rows_at, c, SPINNING, p.year, p.first, p.slice),
-        FIRMSHORT => shortfall_column(ms, rows_at, c, FIRM, p.year, p.first, p.slice),
-        CHARGE => charge_column(data, ms, tables_at, rows_at, c, p.year, p.first, p.slice),
-        LEVEL => level_column(data, ms, tables_at, rows_at, c, p.year, p.first, p.slice),
-        BUILT_LINES => built_column(ms, rows_at, c, p.year, p.first, p.second),
+        CAP => cap_column(pricing, p.year, p.first),
+        BUILD => build_column(pricing, p.year, p.first),
+        RETIRE => retire_column(pricing, p.year, p.first),
+        GEN => gen_column(pricing, p.year, p.first, p.slice),
+        RESERVE => reserve_column(pricing, p.year, p.first, p.slice),
+        TRANS => trans_column(pricing, p.year, p.first, p.second, p.slice),
+        UNMET => shortfall_column(&pricing.multipliers, BALANCE, p.year, p.first, p.slice),
+        SURPLUS => surplus_column(&pricing.multipliers, p.year, p.first, p.slice),
+        SPINSHORT => shortfall_column(&pricing.multipliers, SPINNING, p.year, p.first, p.slice),
+        FIRMSHORT => shortfall_column(&pricing.multipliers, FIRM, p.year, p.first, p.slice),
+        CHARGE => charge_column(pricing, p.year, p.first, p.slice),
+        LEVEL => level_column(pricing, p.year, p.first, p.slice),
+        BUILT_LINES => built_column(&pricing.multipliers, p.year, p.first, p.second),
         // total
-        _ => total_column(data, ms, tables_at, rows_at, c, p.year, p.first, p.second),
+        _ => total_column(pricing, p.year, p.first, p.second),
     }
 }

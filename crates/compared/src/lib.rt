@@ -1,113 +1,60 @@
-// What is read off capped sums: their order, whether one is above the limit, what one comes to, and what is left of them.
-// `capped` and this crate alone match on a `Sum`.
+// What is read off capped sums: their order, and what is left of them.
 #![tactic(auto)]
 
 ghost use Rattle.std.specs.Prelude.{◌≡◌};
-ghost use Rattle.capped.specs.declared.Sum.TheVariants.{Exact};
 ghost use Rattle.capped.specs.Cap.{cap};
-ghost use Rattle.compared.specs.Compared.{order, over, told, net_of};
+ghost use Rattle.compared.specs.Compared.{order, net_of};
 
 use capped::{LIMIT, Sum};
+use std::cmp::Ordering;
 
-// What a sum comes to.
-#[derive(Clone, Copy)]
-pub enum Amount {
-    Exactly(u64),
-    Above,
-}
-
-// How two sums compare. Of two that are over nothing is known.
-#[derive(Clone, Copy)]
-pub enum Order {
-    Less,
-    Equal,
-    Greater,
-    Unknown,
-}
-
-// What is left when one sum is taken from others. It may be above the limit.
-#[derive(Clone, Copy)]
-pub enum Balance {
-    Is(u64),
+// Why there is no number where one sum is taken from others: it would be below zero, or one of them is above the limit.
+#[derive(Clone, Copy, Debug, PartialEq, Eq)]
+pub enum NoBalance {
     BelowZero,
     Unsure,
 }
 
-fn rank(v: u64, w: u64) -> Order
-    ensures { result ≡ order (Exact v) (Exact w) }
-{
-    if v < w {
-        return Order::Less;
-    }
-    if w < v {
-        return Order::Greater;
-    }
-    Order::Equal
-}
+// What is left when one sum is taken from others. It may be above the limit.
+pub type Balance = Result<u64, NoBalance>;
 
-// By number where both are exact; an exact sum is less than one that is over.
-pub fn compare(s: Sum, t: Sum) -> Order
+// By number where both are exact; an exact sum is less than one that is over. Of two that are over nothing is known.
+#[tactic(auto, unfolding(crate::specs::Compared::order))]
+pub fn compare(s: Sum, t: Sum) -> Option<Ordering>
     ensures { result ≡ order s t }
 {
-    match s {
-        Sum::Exact(v) => match t {
-            Sum::Exact(w) => rank(v, w),
-            Sum::Over => Order::Less,
-        },
-        Sum::Over => match t {
-            Sum::Exact(_) => Order::Greater,
-            Sum::Over => Order::Unknown,
-        },
-    }
-}
-
-pub fn is_over(s: Sum) -> bool
-    ensures { result ≡ over s }
-{
-    match s {
-        Sum::Exact(_) => false,
-        Sum::Over => true,
-    }
-}
-
-pub fn value(s: Sum) -> Amount
-    ensures { result ≡ told s }
-{
-    match s {
-        Sum::Exact(v) => Amount::Exactly(v),
-        Sum::Over => Amount::Above,
+    match (s, t) {
+        (Some(v), Some(w)) => Some(v.cmp(&w)),
+        (Some(_), None) => Some(Ordering::Less),
+        (None, Some(_)) => Some(Ordering::Greater),
+        (None, None) => None,
     }
 }
 
 fn subtract(a: u64, b: u64, c: u64) -> Balance
-    ensures { result ≡ net_of (Exact a) (Exact b) (Exact c) }
+    ensures { result ≡ net_of (Some a) (Some b) (Some c) }
 {
     // As in `add`: with both at most the limit, `a + b` cannot wrap.
     if a > LIMIT {
-        return Balance::Unsure;
+        return Err(NoBalance::Unsure);
     }
     if b > LIMIT {
-        return Balance::Unsure;
+        return Err(NoBalance::Unsure);
     }
     let total = a + b;
     if total < c {
-        return Balance::BelowZero;
+        return Err(NoBalance::BelowZero);
     }
-    Balance::Is(total - c)
+    Ok(total - c)
 }
 
 // a + b - c, where all three are exact. The sum of two exact sums is held even where it is above the limit.
+#[tactic(auto, unfolding(crate::specs::Compared::net_of))]
 pub fn net(a: Sum, b: Sum, c: Sum) -> Balance
     ensures { result ≡ net_of a b c }
 {
-    let Sum::Exact(x) = a else {
-        return Balance::Unsure;
-    };
-    let Sum::Exact(y) = b else {
-        return Balance::Unsure;
-    };
-    let Sum::Exact(z) = c else {
-        return Balance::Unsure;
+    let (Some(x), Some(y), Some(z)) = (a, b, c) else {
+        return Err(NoBalance::Unsure);
     };
     subtract(x, y, z)
 }

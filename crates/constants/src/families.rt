@@ -37,6 +37,7 @@ const CONSTANT_FAMILIES: [bool; FAMILY_COUNT] = [
     false, // 28 lines both ways
 ];
 
+#[tactic(auto, unfolding(crate::specs::Constants::has_constant))]
 pub fn has_constant(k: usize) -> bool
     requires { k < family_count }
     ensures { result ≡ has_constant k }

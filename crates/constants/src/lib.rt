@@ -3,7 +3,7 @@
 
 pub mod families;
 
-ghost use Rattle.std.specs.Prelude.{◌≡◌, ◌-◌};
+ghost use Rattle.std.specs.Prelude.{◌≡◌};
 ghost use Rattle.constants.specs.Constants.{netted_of};
 
 // What a row's constant adds and what it takes off.
@@ -17,18 +17,12 @@ pub struct Constant {
 pub const NONE: Constant = Constant { adds: 0, takes: 0 };
 
 // Like terms brought together: one number, so that one of its two parts is 0.
+#[tactic(auto, unfolding(crate::specs::Constants::netted_of))]
 pub fn netted(k: Constant) -> Constant
     ensures { result ≡ netted_of k }
 {
     Constant {
-        adds: excess(k.adds, k.takes),
-        takes: excess(k.takes, k.adds),
+        adds: k.adds.saturating_sub(k.takes),
+        takes: k.takes.saturating_sub(k.adds),
     }
-}
-
-// a − b, 0 where that is below zero.
-pub fn excess(a: u64, b: u64) -> u64
-    ensures { result ≡ a - b }
-{
-    if b < a { a - b } else { 0 }
 }

@@ -1,4 +1,6 @@
 -- The tests of the data: what each says, and what callers have of data that passed them all. Assumes nothing.
+use Rattle.std.specs.Prelude.{Result, Ok, Err}
+use Rattle.model.specs.Calls.{outcome}
 use mathlib.Core.Path.{◌≡◌, refl, sym, ap, ◌∙◌}
 use mathlib.Core.Bool.{Bool}
 use mathlib.Core.List.{List}
@@ -10,8 +12,6 @@ use lib.ListN.{length, get_or}
 use Rattle.sums.specs.Span.{Fault, fine, fault, or_else, upto}
 use Rattle.sums.specs.Index.{count}
 use Rattle.sums.proofs.Spans.{or_else-fine}
-use Rattle.model.specs.declared.Outcome.{Outcome}
-use Rattle.model.specs.declared.Outcome.TheVariants.{Fine, Fails}
 use Rattle.model.specs.declared.Refusal.{Refusal}
 use Rattle.model.specs.declared.Refusal.TheVariants.{Shape, DataLength}
 use Rattle.model.specs.declared.Counts.{Counts}
@@ -19,21 +19,25 @@ use Rattle.model.specs.Data.{Data, within, ◌to◌, most_counts, counts_of, dat
 use Rattle.model.specs.Tests.{unless, head_fault, count_fault, counts_fault, length_fault, entries_fault, plant_storage_fault, storage_fault, data_fault}
 use Rattle.model.proofs.Sound.{count-range, passed}
 use Rattle.model.specs.Columns.{column_sets, column_boxes, column_kind_count}
-use Rattle.tables.specs.Layout.{outcome, Counted, TablesAt, ColumnsAt, start_from, table_sets}
+use Rattle.tables.specs.Layout.{Counted, TablesAt, ColumnsAt, start_from, table_sets}
 use Rattle.tables.proofs.Laws.{tables_end, columns-end as columns-are}
 
 -- Outcomes of one test and then another
 
-pub outcome-fine : (f : Fault Refusal) → outcome f ≡ Fine → f ≡ fine
+pub outcome-fine : (f : Fault Refusal) → outcome f ≡ Ok tt → f ≡ fine
 outcome-fine fine e = refl
 outcome-fine (fault r) e = let z : ◌≡◌ {A = ℕ} 0 1 = cc in absurd (omega arith)
 
-pub stopped : (f g : Fault Refusal) {o : Outcome} {r : Refusal} → o ≡ outcome f → o ≡ Fails r → o ≡ outcome (or_else f g)
+pub stopped : (f g : Fault Refusal) {o : Result (Unit {0}) Refusal} {r : Refusal} → o ≡ outcome f → o ≡ Err r → o ≡ outcome (or_else f g)
 unfolding or_else
 stopped fine g e q = let z : ◌≡◌ {A = ℕ} 0 1 = cc in absurd (omega arith)
 stopped (fault s) g e q = e
 
-pub went_on : (f g : Fault Refusal) {o : Outcome} → f ≡ fine → o ≡ outcome g → o ≡ outcome (or_else f g)
+-- a refusal that `?` hands on
+pub handed_on : (f g : Fault Refusal) {o p : Result (Unit {0}) Refusal} {r : Refusal} → o ≡ outcome f → o ≡ Err r → p ≡ Err r → p ≡ outcome (or_else f g)
+handed_on f g e q n = n ∙ sym q ∙ stopped f g e q
+
+pub went_on : (f g : Fault Refusal) {o : Result (Unit {0}) Refusal} → f ≡ fine → o ≡ outcome g → o ≡ outcome (or_else f g)
 unfolding or_else
 went_on f g p e = rw p e
 
@@ -44,7 +48,7 @@ in-turn fine (fault r) h k = refl
 in-turn fine fine h k = refl
 
 -- a test that refused, and one that did not, in front of the rest
-pub refused-by : (f g : Fault Refusal) {o : Outcome} {r : Refusal} → o ≡ outcome f → o ≡ Fails r → or_else f g ≡ fault r
+pub refused-by : (f g : Fault Refusal) {o : Result (Unit {0}) Refusal} {r : Refusal} → o ≡ outcome f → o ≡ Err r → or_else f g ≡ fault r
 unfolding or_else
 refused-by fine g e q = let z : ◌≡◌ {A = ℕ} 0 1 = cc in absurd (omega arith)
 refused-by (fault s) g e q = cc
@@ -58,7 +62,7 @@ unfolding or_else
 in_two fine g h = refl
 in_two (fault r) g h = refl
 
-pub passes : {f : Fault Refusal} {o : Outcome} → o ≡ outcome f → o ≡ Fine → f ≡ fine
+pub passes : {f : Fault Refusal} {o : Result (Unit {0}) Refusal} → o ≡ outcome f → o ≡ Ok tt → f ≡ fine
 passes {f} e q = outcome-fine f (sym e ∙ q)
 
 module _ (l : List ℕ) where
@@ -78,11 +82,11 @@ module _ (l : List ℕ) where
   pub whole_is : {c : Counts} {n : ℕ} → c ≡ counts_of l → n ≡ start_from c table_sets 7 table_count → n ≡ data_length (counts_of l)
   whole_is {c} e q = q ∙ tables_end c ∙ ap data_length e
 
-  pub length-wrong : {n : ℕ} → n ≡ data_length (counts_of l) → (length l ≡ n → ⊥) → Fails (DataLength n) ≡ outcome (length_fault l)
+  pub length-wrong : {n : ℕ} → n ≡ data_length (counts_of l) → (length l ≡ n → ⊥) → Err (DataLength n) ≡ outcome (length_fault l)
   unfolding length_fault unless
   length-wrong {n} e h = rw (← e, ne_eqb (length l) n h)
 
-  pub length-right : {n : ℕ} → n ≡ data_length (counts_of l) → length l ≡ n → Fine ≡ outcome (length_fault l)
+  pub length-right : {n : ℕ} → n ≡ data_length (counts_of l) → length l ≡ n → (Ok tt) ≡ outcome (length_fault l)
   unfolding length_fault unless
   length-right {n} e h = rw (← e, eq-eqb (length l) n h)
 

@@ -3,15 +3,16 @@
 
 ghost use Rattle.std.specs.Prelude.{◌≡◌, ◌&&◌, ◌≤◌, ◌<◌, length, get_or};
 ghost use Rattle.sums.specs.Span.{fine, or_else};
-ghost use Rattle.model.specs.Data.{counts_of, most_counts, read, is_battery, is_vre};
+ghost use Rattle.model.specs.Data.{counts_of, most_counts, is_battery, is_vre};
 ghost use Rattle.model.specs.Tests.{head_fault, counts_fault, length_fault, entries_fault, storage_fault, data_fault};
-ghost use Rattle.tables.specs.Layout.{outcome, TablesAt};
+ghost use Rattle.model.specs.Calls.{outcome};
+ghost use Rattle.tables.specs.Lists.{data_of};
 
 use entry_tests::test_entries;
-use model::{Counts, Outcome, Refusal, TABLE_COUNT};
+use model::{Counts, Refusal, TABLE_COUNT};
 use ranges::{Range, in_range};
-use tables::plants::{is_battery, is_vre};
-use tables::starts::{Starts, table_starts};
+use tables::lists::Tables;
+use tables::starts::table_starts;
 
 // The largest that each count may be.
 const MOST_COUNTS: [u32; 7] = [8, 32, 8, 4, 4, 24, 10];
@@ -23,30 +24,24 @@ pub fn most_count(i: usize) -> u32
     MOST_COUNTS[i]
 }
 
-fn count(x: u32) -> usize
-    ensures { result ≡ x }
-{
-    x as usize
-}
-
 // The counts, the first seven numbers.
 pub fn counts_of(data: &[u32]) -> Counts
     requires { 7 ≤ length «data».now }
     ensures { result ≡ counts_of «data».now }
 {
     Counts {
-        zones: count(data[0]),
-        plants: count(data[1]),
-        fuels: count(data[2]),
-        seasons: count(data[3]),
-        days: count(data[4]),
-        hours: count(data[5]),
-        years: count(data[6]),
+        zones: data[0] as usize,
+        plants: data[1] as usize,
+        fuels: data[2] as usize,
+        seasons: data[3] as usize,
+        days: data[4] as usize,
+        hours: data[5] as usize,
+        years: data[6] as usize,
     }
 }
 
 // Refusal 1.
-fn test_counts(data: &[u32]) -> Outcome
+fn test_counts(data: &[u32]) -> Result<(), Refusal>
     requires { 7 ≤ length «data».now }
     ensures { result ≡ outcome (counts_fault «data».now) }
 {
@@ -56,86 +51,81 @@ fn test_counts(data: &[u32]) -> Outcome
             most: most_count(i),
         };
         if !in_range(r, data[i]) {
-            return Outcome::Fails(Refusal::Shape(i));
+            return Err(Refusal::Shape(i));
         }
     }
-    Outcome::Fine
+    Ok(())
 }
 
 // Refusal 2, the length that the counts give.
-fn test_length(data: &[u32]) -> Outcome
+fn test_length(data: &[u32]) -> Result<(), Refusal>
     requires { (7 ≤ length «data».now) × (counts_fault «data».now ≡ fine) }
     ensures { result ≡ outcome (length_fault «data».now) }
 {
     let tables_at = table_starts(counts_of(data));
     let whole = tables_at[TABLE_COUNT];
     if data.len() != whole {
-        return Outcome::Fails(Refusal::DataLength(whole));
+        return Err(Refusal::DataLength(whole));
     }
-    Outcome::Fine
+    Ok(())
 }
 
 // Refusals 1 and 2. With under seven numbers there are no counts to test.
-pub fn test_head(data: &[u32]) -> Outcome
+pub fn test_head(data: &[u32]) -> Result<(), Refusal>
     ensures { result ≡ outcome (or_else (head_fault «data».now) (or_else (counts_fault «data».now) (length_fault «data».now))) }
 {
     if data.len() < 7 {
-        return Outcome::Fails(Refusal::DataLength(7));
+        return Err(Refusal::DataLength(7));
     }
-    let counts = test_counts(data);
-    match counts {
-        Outcome::Fails(_) => return counts,
-        Outcome::Fine => {}
-    }
+    test_counts(data)?;
     test_length(data)
 }
 
-fn is_vre_battery(data: &[u32], tables_at: &Starts, c: Counts, g: usize) -> bool
-    requires { TablesAt «data».now tables_at.now c × (g < c.plants) }
-    ensures { result ≡ (is_battery (read «data».now) g && is_vre (read «data».now) g) }
+// The data that passed refusals 1 and 2, with its counts and the starts of its tables.
+pub fn lay_out<'a>(list: &'a [u32]) -> Tables<'a>
+    requires { or_else (head_fault list.now) (or_else (counts_fault list.now) (length_fault list.now)) ≡ fine }
+    ensures { result.list.now ≡ list.now }
 {
-    if is_battery(data, tables_at, c, g) {
-        return is_vre(data, tables_at, c, g);
+    let counts = counts_of(list);
+    Tables {
+        list,
+        counts,
+        starts: table_starts(counts),
     }
-    false
+}
+
+fn is_vre_battery(tables: &Tables, g: usize) -> bool
+    requires { g < tables.now.counts.plants }
+    ensures { result ≡ (is_battery (data_of tables.now) g && is_vre (data_of tables.now) g) }
+{
+    tables.is_battery(g) && tables.is_vre(g)
 }
 
 // Refusal 16: the lowest plant that is a battery and has VRE set.
-fn test_storage(data: &[u32], tables_at: &Starts, c: Counts) -> Outcome
-    requires { TablesAt «data».now tables_at.now c }
-    ensures { result ≡ outcome (storage_fault (read «data».now)) }
+fn test_storage(tables: &Tables) -> Result<(), Refusal>
+    ensures { result ≡ outcome (storage_fault (data_of tables.now)) }
 {
-    for g in 0..c.plants {
-        if is_vre_battery(data, tables_at, c, g) {
-            return Outcome::Fails(Refusal::Storage(g));
+    for g in 0..tables.counts.plants {
+        if is_vre_battery(tables, g) {
+            return Err(Refusal::Storage(g));
         }
     }
-    Outcome::Fine
+    Ok(())
 }
 
 // Refusals 3 and 16: all entries before any battery.
-fn test_tables(data: &[u32], tables_at: &Starts, c: Counts) -> Outcome
-    requires { TablesAt «data».now tables_at.now c }
-    ensures { result ≡ outcome (or_else (entries_fault (read «data».now)) (storage_fault (read «data».now))) }
+#[tactic(auto, using(crate::proofs::Passed::passes, crate::proofs::Passed::handed_on, crate::proofs::Passed::went_on))]
+fn test_tables(tables: &Tables) -> Result<(), Refusal>
+    ensures { result ≡ outcome (or_else (entries_fault (data_of tables.now)) (storage_fault (data_of tables.now))) }
 {
-    let entries = test_entries(data, tables_at, c);
-    match entries {
-        Outcome::Fails(_) => return entries,
-        Outcome::Fine => {}
-    }
-    test_storage(data, tables_at, c)
+    test_entries(tables)?;
+    test_storage(tables)
 }
 
 // All of it.
-pub fn test_data(data: &[u32]) -> Outcome
+pub fn test_data(data: &[u32]) -> Result<(), Refusal>
     ensures { result ≡ outcome (data_fault «data».now) }
 {
-    let head = test_head(data);
-    match head {
-        Outcome::Fails(_) => return head,
-        Outcome::Fine => {}
-    }
-    let c = counts_of(data);
-    let tables_at = table_starts(c);
-    test_tables(data, &tables_at, c)
+    test_head(data)?;
+    test_tables(&lay_out(data))
 }

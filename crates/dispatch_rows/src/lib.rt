@@ -4,39 +4,31 @@
 ghost use Rattle.std.specs.Prelude.{◌≡◌, ℕ, ◌+◌, ◌*◌, ◌≤◌, ◌<◌, length, get_or};
 ghost use Rattle.capped.specs.Cap.{cap};
 ghost use Rattle.model.specs.Counts.{slices_of, [g]};
-ghost use Rattle.model.specs.Data.{read};
 ghost use Rattle.model.specs.Columns.{cap as cap_column};
 ghost use Rattle.model.specs.Families.{row};
-ghost use Rattle.tables.specs.Layout.{Counted, TablesAt, ColumnsAt, EntryAt, plan_entry};
+ghost use Rattle.tables.specs.Layout.{Counted, EntryAt};
 ghost use Rattle.parts.specs.Years.{YearPart, gen_kind, reserve_kind};
 ghost use Rattle.energy.specs.Energies.{Energies};
 ghost use Rattle.row_sums.specs.Ready.{sides_of, terms_of, high, low, ramp_of};
+ghost use Rattle.tables.specs.Layout.{table_sets};
+ghost use Rattle.tables.specs.Lists.{data_of, entry_of};
 
+use tables::lists::{Case, Plan};
 use capped::Sum;
 use energy::totals::{EnergyTable, energy_at};
 use model::Counts;
 use parts::slices::{day_of, first_hour, season_of};
 use parts::years::part_at;
-use row_sums::{Sides, empty};
-use tables::entries::{by_day, by_plant, by_plant_season, by_plant_slice, planned_by_year_plant};
+use row_sums::{Change, Sides, empty};
 use tables::names::{AVAILABILITY, CAP, MIN_CAP_FAC, MIN_LOAD, OVER_LOAD, PROFILE, RES_OFFER};
-use tables::plants::is_vre;
-use tables::starts::Starts;
 use terms::plants::season_hours;
 
 // rate·cap, the rate in thousandths.
-fn rate_of_capacity(
-    plan: &[u32],
-    columns_at: &Starts,
-    c: Counts,
-    rate: u64,
-    y: usize,
-    g: usize,
-) -> Sum
-    requires { Counted c × (ColumnsAt plan.now columns_at.now c × ((y < c.years) × (g < c.plants))) }
-    ensures { result ≡ cap (rate * plan_entry c plan.now (cap_column y g)) }
+fn rate_of_capacity(plan: &Plan, rate: u64, y: usize, g: usize) -> Sum
+    requires { (y < plan.now.counts.years) × (g < plan.now.counts.plants) }
+    ensures { result ≡ cap (rate * entry_of plan.now (cap_column y g)) }
 {
-    capped::product(rate, planned_by_year_plant(plan, columns_at, c, CAP, y, g))
+    capped::product(rate, plan.by_year_plant(CAP, y, g))
 }
 
 // 1000 times an entry of a year's part of gen, reserve or charge, to stand beside a rate of capacity.
@@ -48,186 +40,105 @@ fn in_thousandths(part: &[u32], c: Counts, g: usize, s: usize) -> Sum
 }
 
 // 5 (22): 1000·(gen + reserve) ≤ (1000 + OverLoad)·cap
-pub fn loading(
-    data: &[u32],
-    plan: &[u32],
-    outputs: &[u32],
-    reserves: &[u32],
-    tables_at: &Starts,
-    columns_at: &Starts,
-    c: Counts,
-    y: usize,
-    g: usize,
-    s: usize,
-) -> Sides
-    requires { (TablesAt «data».now tables_at.now c × (ColumnsAt plan.now columns_at.now c × (YearPart plan.now outputs.now c gen_kind y × YearPart plan.now reserves.now c reserve_kind y))) × ((y < c.years) × ((g < c.plants) × (s < slices_of c))) }
-    ensures { (N : ℕ) → result ≡ sides_of (read «data».now) N (plan_entry c plan.now) (row 5 y g 0 s) }
+pub fn loading(case: &Case, outputs: &[u32], reserves: &[u32], y: usize, g: usize, s: usize) -> Sides
+    requires { (YearPart case.now.plan.list.now outputs.now case.now.plan.counts gen_kind y × YearPart case.now.plan.list.now reserves.now case.now.plan.counts reserve_kind y) × ((y < case.now.plan.counts.years) × ((g < case.now.plan.counts.plants) × (s < slices_of case.now.plan.counts))) }
+    ensures { (N : ℕ) → result ≡ sides_of (data_of case.now.tables) N (entry_of case.now.plan) (row 5 y g 0 s) }
 {
-    let rate = 1000 + by_plant(data, tables_at, c, OVER_LOAD, g);
+    let rate = 1000 + case.tables.by_plant(OVER_LOAD, g);
     Sides {
-        above: rate_of_capacity(plan, columns_at, c, rate, y, g),
+        above: rate_of_capacity(&case.plan, rate, y, g),
         below: capped::join(
-            in_thousandths(outputs, c, g, s),
-            in_thousandths(reserves, c, g, s),
+            in_thousandths(outputs, case.plan.counts, g, s),
+            in_thousandths(reserves, case.plan.counts, g, s),
         ),
     }
 }
 
 // 6 (23): 1000·reserve ≤ ResOffer·cap
-pub fn offer(
-    data: &[u32],
-    plan: &[u32],
-    reserves: &[u32],
-    tables_at: &Starts,
-    columns_at: &Starts,
-    c: Counts,
-    y: usize,
-    g: usize,
-    s: usize,
-) -> Sides
-    requires { (TablesAt «data».now tables_at.now c × (ColumnsAt plan.now columns_at.now c × YearPart plan.now reserves.now c reserve_kind y)) × ((y < c.years) × ((g < c.plants) × (s < slices_of c))) }
-    ensures { (N : ℕ) → result ≡ sides_of (read «data».now) N (plan_entry c plan.now) (row 6 y g 0 s) }
+pub fn offer(case: &Case, reserves: &[u32], y: usize, g: usize, s: usize) -> Sides
+    requires { YearPart case.now.plan.list.now reserves.now case.now.plan.counts reserve_kind y × ((y < case.now.plan.counts.years) × ((g < case.now.plan.counts.plants) × (s < slices_of case.now.plan.counts))) }
+    ensures { (N : ℕ) → result ≡ sides_of (data_of case.now.tables) N (entry_of case.now.plan) (row 6 y g 0 s) }
 {
-    let rate = by_plant(data, tables_at, c, RES_OFFER, g);
+    let rate = case.tables.by_plant(RES_OFFER, g);
     Sides {
-        above: rate_of_capacity(plan, columns_at, c, rate, y, g),
-        below: in_thousandths(reserves, c, g, s),
+        above: rate_of_capacity(&case.plan, rate, y, g),
+        below: in_thousandths(reserves, case.plan.counts, g, s),
     }
 }
-
-// What a ramp bounds: how far an hour's output or charge may lie below that of the hour before, or above it.
-pub const FALL: bool = true;
-
-pub const RISE: bool = false;
 
 // A ramp over the hour before, t > 0, of a year's part of gen or charge: 1000 times its fall, or its rise, is at most the table `rate` times cap.
 // 7 (24): the fall of gen, RampDn; 8 (25): its rise, RampUp; 23 and 24 by `charge_ramp`.
-pub fn ramp(
-    data: &[u32],
-    plan: &[u32],
-    part: &[u32],
-    tables_at: &Starts,
-    columns_at: &Starts,
-    c: Counts,
-    rate: usize,
-    falls: bool,
-    y: usize,
-    g: usize,
-    s: usize,
-) -> Sides
-    requires { (EntryAt «data».now tables_at.now c rate [g] 0 g 0 0 × (ColumnsAt plan.now columns_at.now c × (length part.now ≡ c.plants * slices_of c))) × ((y < c.years) × ((g < c.plants) × (s < slices_of c))) }
-    ensures { (k : ℕ) → YearPart plan.now part.now c k y → result ≡ terms_of (ramp_of (read «data».now) ((read «data».now).entry rate 0 g 0 0) k falls y g s) (plan_entry c plan.now) }
+pub fn ramp(case: &Case, part: &[u32], rate: usize, change: Change, y: usize, g: usize, s: usize) -> Sides
+    requires { (EntryAt table_sets case.now.plan.counts rate [g] 0 g 0 0 × (length part.now ≡ case.now.plan.counts.plants * slices_of case.now.plan.counts)) × ((y < case.now.plan.counts.years) × ((g < case.now.plan.counts.plants) × (s < slices_of case.now.plan.counts))) }
+    ensures { (k : ℕ) → YearPart case.now.plan.list.now part.now case.now.plan.counts k y → result ≡ terms_of (ramp_of (data_of case.now.tables) ((data_of case.now.tables).entry rate 0 g 0 0) k change y g s) (entry_of case.now.plan) }
 {
-    if first_hour(c, s) {
+    if first_hour(case.plan.counts, s) {
         return empty();
     }
-    let allowed = rate_of_capacity(
-        plan,
-        columns_at,
-        c,
-        by_plant(data, tables_at, c, rate, g),
-        y,
-        g,
-    );
+    let (high, low) = high_and_low(change, s);
+    let allowed = rate_of_capacity(&case.plan, case.tables.by_plant(rate, g), y, g);
     Sides {
-        above: capped::join(allowed, in_thousandths(part, c, g, low_slice(falls, s))),
-        below: in_thousandths(part, c, g, high_slice(falls, s)),
+        above: capped::join(allowed, in_thousandths(part, case.plan.counts, g, low)),
+        below: in_thousandths(part, case.plan.counts, g, high),
     }
 }
 
-// Of a slice and the one before it, the one whose column may not lie too far above the other's: the earlier where the fall is bound.
-fn high_slice(falls: bool, s: usize) -> usize
+// Of a slice and the one before it, the one whose column may not lie too far above the other's, then the other.
+fn high_and_low(change: Change, s: usize) -> (usize, usize)
     requires { 1 ≤ s }
-    ensures { result ≡ high falls s }
+    ensures are { (result.0 ≡ high change s) × (result.1 ≡ low change s) }
+    ensures within { (result.0 ≤ s) × (result.1 ≤ s) }
 {
-    if falls {
-        return s - 1;
+    match change {
+        Change::Fall => (s - 1, s),
+        Change::Rise => (s, s - 1),
     }
-    s
-}
-
-// And the other of the two.
-fn low_slice(falls: bool, s: usize) -> usize
-    requires { 1 ≤ s }
-    ensures { result ≡ low falls s }
-{
-    high_slice(!falls, s)
 }
 
 // 9 (26), minimum-load days: 1000·gen ≥ MinCapFac·cap
-pub fn minimum_load(
-    data: &[u32],
-    plan: &[u32],
-    outputs: &[u32],
-    tables_at: &Starts,
-    columns_at: &Starts,
-    c: Counts,
-    y: usize,
-    g: usize,
-    s: usize,
-) -> Sides
-    requires { (TablesAt «data».now tables_at.now c × (ColumnsAt plan.now columns_at.now c × YearPart plan.now outputs.now c gen_kind y)) × ((y < c.years) × ((g < c.plants) × (s < slices_of c))) }
-    ensures { (N : ℕ) → result ≡ sides_of (read «data».now) N (plan_entry c plan.now) (row 9 y g 0 s) }
+pub fn minimum_load(case: &Case, outputs: &[u32], y: usize, g: usize, s: usize) -> Sides
+    requires { YearPart case.now.plan.list.now outputs.now case.now.plan.counts gen_kind y × ((y < case.now.plan.counts.years) × ((g < case.now.plan.counts.plants) × (s < slices_of case.now.plan.counts))) }
+    ensures { (N : ℕ) → result ≡ sides_of (data_of case.now.tables) N (entry_of case.now.plan) (row 9 y g 0 s) }
 {
-    if by_day(data, tables_at, c, MIN_LOAD, season_of(c, s), day_of(c, s)) != 1 {
+    if case.tables.by_day(MIN_LOAD, season_of(case.plan.counts, s), day_of(case.plan.counts, s)) != 1 {
         return empty();
     }
-    let rate = by_plant(data, tables_at, c, MIN_CAP_FAC, g);
+    let rate = case.tables.by_plant(MIN_CAP_FAC, g);
     Sides {
-        above: in_thousandths(outputs, c, g, s),
-        below: rate_of_capacity(plan, columns_at, c, rate, y, g),
+        above: in_thousandths(outputs, case.plan.counts, g, s),
+        below: rate_of_capacity(&case.plan, rate, y, g),
     }
 }
 
 // 10 (27): 1000·Σ Dur·gen ≤ Availability·(Σ Dur)·cap, over the season
-pub fn available(
-    data: &[u32],
-    plan: &[u32],
-    energy: &EnergyTable,
-    tables_at: &Starts,
-    columns_at: &Starts,
-    c: Counts,
-    y: usize,
-    g: usize,
-    q: usize,
-) -> Sides
-    requires { (TablesAt «data».now tables_at.now c × (ColumnsAt plan.now columns_at.now c × Energies (read «data».now) (plan_entry c plan.now) energy.now c)) × ((y < c.years) × ((g < c.plants) × (q < c.seasons))) }
-    ensures { (N : ℕ) → result ≡ sides_of (read «data».now) N (plan_entry c plan.now) (row 10 y g 0 q) }
+pub fn available(case: &Case, energy: &EnergyTable, y: usize, g: usize, q: usize) -> Sides
+    requires { (Energies (data_of case.now.tables) (entry_of case.now.plan) energy.now case.now.plan.counts) × ((y < case.now.plan.counts.years) × ((g < case.now.plan.counts.plants) × (q < case.now.plan.counts.seasons))) }
+    ensures { (N : ℕ) → result ≡ sides_of (data_of case.now.tables) N (entry_of case.now.plan) (row 10 y g 0 q) }
 {
-    let rate = by_plant_season(data, tables_at, c, AVAILABILITY, g, q);
+    let rate = case.tables.by_plant_season(AVAILABILITY, g, q);
     let above = capped::add_product3(
         capped::zero(),
         rate,
-        season_hours(data, tables_at, c, q),
-        planned_by_year_plant(plan, columns_at, c, CAP, y, g),
+        season_hours(&case.tables, q),
+        case.plan.by_year_plant(CAP, y, g),
     );
     Sides {
         above,
-        below: capped::scale(energy_at(energy, c, y, g, q), 1000),
+        below: capped::scale(energy_at(energy, case.plan.counts, y, g, q), 1000),
     }
 }
 
 // 11 (28), VRE: 1000·gen ≤ Profile·cap
-pub fn profiled(
-    data: &[u32],
-    plan: &[u32],
-    outputs: &[u32],
-    tables_at: &Starts,
-    columns_at: &Starts,
-    c: Counts,
-    y: usize,
-    g: usize,
-    s: usize,
-) -> Sides
-    requires { (TablesAt «data».now tables_at.now c × (ColumnsAt plan.now columns_at.now c × YearPart plan.now outputs.now c gen_kind y)) × ((y < c.years) × ((g < c.plants) × (s < slices_of c))) }
-    ensures { (N : ℕ) → result ≡ sides_of (read «data».now) N (plan_entry c plan.now) (row 11 y g 0 s) }
+pub fn profiled(case: &Case, outputs: &[u32], y: usize, g: usize, s: usize) -> Sides
+    requires { YearPart case.now.plan.list.now outputs.now case.now.plan.counts gen_kind y × ((y < case.now.plan.counts.years) × ((g < case.now.plan.counts.plants) × (s < slices_of case.now.plan.counts))) }
+    ensures { (N : ℕ) → result ≡ sides_of (data_of case.now.tables) N (entry_of case.now.plan) (row 11 y g 0 s) }
 {
-    if !is_vre(data, tables_at, c, g) {
+    if !case.tables.is_vre(g) {
         return empty();
     }
-    let rate = by_plant_slice(data, tables_at, c, PROFILE, g, s);
+    let rate = case.tables.by_plant_slice(PROFILE, g, s);
     Sides {
-        above: rate_of_capacity(plan, columns_at, c, rate, y, g),
-        below: in_thousandths(outputs, c, g, s),
+        above: rate_of_capacity(&case.plan, rate, y, g),
+        below: in_thousandths(outputs, case.plan.counts, g, s),
     }
 }

@@ -1,4 +1,6 @@
 -- The parts of a signed number, the starts of the families, a row's place among the multipliers, and the tests of refusals 9 and 10. Assumes nothing.
+use Rattle.std.specs.Prelude.{Result, Err}
+use Rattle.model.specs.Calls.{outcome}
 use mathlib.Core.Path.{◌≡◌, refl, sym, ap, ◌∙◌, fun_ext}
 use mathlib.Core.Bool.{Bool, true, false, ◌&&◌}
 use mathlib.Core.List.{List}
@@ -22,8 +24,6 @@ use Rattle.sums.proofs.Numbering.{number_bound}
 use Rattle.sums.proofs.Flat.{box-first}
 use Rattle.model.specs.declared.Counts.{Counts}
 use Rattle.model.specs.declared.Family.{Family}
-use Rattle.model.specs.declared.Outcome.{Outcome}
-use Rattle.model.specs.declared.Outcome.TheVariants.{Fails}
 use Rattle.model.specs.declared.Refusal.{Refusal}
 use Rattle.model.specs.declared.Refusal.TheVariants.{MultiplierCount, Multiplier}
 use Rattle.model.specs.declared.Shape.{Shape}
@@ -31,7 +31,6 @@ use Rattle.model.specs.Counts.{sets}
 use Rattle.model.specs.Data.{Data}
 use Rattle.model.specs.Families.{family_of, row_boxes, shape_of, family_count}
 use Rattle.model.specs.Tests.{unless, part⁺, part⁻, most_multiplier, multiplier, multiplier_count_fault, multiplier_fault, multipliers_fault}
-use Rattle.tables.specs.Layout.{outcome}
 use Rattle.tables.proofs.Laws.{get_or-map-in, small-set}
 use Rattle.tables.proofs.Members.{family-box, row_inside}
 use Rattle.duals.specs.declared.Multiplier as part
@@ -157,10 +156,10 @@ module _ (ms : List ℤ) (D : Data) {c : Counts} (same : D.counts ≡ c) {n : �
   rows_of : n ≡ count (row_boxes D.counts)
   rows_of = whole ∙ ap (λ (d : Counts). count (row_boxes d)) (sym same)
 
-  pub count-wrong : (length ms ≡ n → ⊥) → Fails (MultiplierCount n) ≡ outcome (or_else (multiplier_count_fault D ms) (multipliers_fault D ms))
+  pub count-wrong : (length ms ≡ n → ⊥) → Err (MultiplierCount n) ≡ outcome (or_else (multiplier_count_fault D ms) (multipliers_fault D ms))
   unfolding multiplier_count_fault unless or_else
   count-wrong h = rw (← rows_of, ne_eqb (length ms) n h)
 
-  pub count-right : {o : Outcome} → length ms ≡ n → o ≡ outcome (multipliers_fault D ms) → o ≡ outcome (or_else (multiplier_count_fault D ms) (multipliers_fault D ms))
+  pub count-right : {o : Result (Unit {0}) Refusal} → length ms ≡ n → o ≡ outcome (multipliers_fault D ms) → o ≡ outcome (or_else (multiplier_count_fault D ms) (multipliers_fault D ms))
   unfolding multiplier_count_fault unless or_else
   count-right h e = rw (← rows_of, eq-eqb (length ms) n h) e

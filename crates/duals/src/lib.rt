@@ -9,10 +9,11 @@ ghost use Rattle.sums.specs.Index.{index_of, start, count, number, Member};
 ghost use Rattle.model.specs.Data.{Data};
 ghost use Rattle.model.specs.Families.{family_of, row_boxes, family_count};
 ghost use Rattle.model.specs.Tests.{most_multiplier, multiplier_count_fault, multipliers_fault};
-ghost use Rattle.tables.specs.Layout.{outcome, Counted};
+ghost use Rattle.model.specs.Calls.{outcome};
+ghost use Rattle.tables.specs.Layout.{Counted};
 ghost use Rattle.duals.specs.Multipliers.{multiplier_of, Shaped, RowsAt};
 
-use model::{Counts, FAMILY_COUNT, Outcome, Refusal, Shape};
+use model::{Counts, FAMILY_COUNT, Refusal, Shape};
 use sums::Place;
 use tables::families::{
     AVAILABLE, BALANCE, BATTERY_LEVEL, CAPITAL, CHARGE_FALL, CHARGE_LIMIT, CHARGE_RISE, FIRM,
@@ -20,6 +21,7 @@ use tables::families::{
     NEW_LINES, OFFER, PROFILED, RAMP_DOWN, RAMP_UPWARD, SPINNING, STOCK, SYSTEM_EMISSION, TRANSFER,
     YEARLY_BUILD, ZONE_EMISSION,
 };
+use tables::lists::TestedTables;
 use tables::sets::{
     BY_LINK, BY_LINK_SLICE, BY_PAIR, BY_PLANT, BY_YEAR, BY_YEAR_PLANT, BY_YEAR_PLANT_SEASON,
     BY_YEAR_PLANT_SLICE, BY_YEAR_ZONE, BY_YEAR_ZONE_FUEL, BY_YEAR_ZONE_SLICE, SINGLE, family_at,
@@ -34,6 +36,18 @@ const MOST_MULTIPLIER: u64 = 0x100_0000_0000;
 pub struct Multiplier {
     pub up: u64,
     pub down: u64,
+}
+
+impl Multiplier {
+    // Of the same size, with the other sign.
+    pub fn negated(self) -> Multiplier
+        ensures { (result.up ≡ self.down) × (result.down ≡ self.up) }
+    {
+        Multiplier {
+            up: self.down,
+            down: self.up,
+        }
+    }
 }
 
 // -1 - m is never out of range, and 0 - m can be.
@@ -81,6 +95,7 @@ pub fn row_starts(shape: Shape) -> RowStarts
 
 // The code of a family's index set once more, by match: where the family is a constant, inlining sees through it to the code, and so to the index set.
 // It does not see through a read of the table of families: docs/BENCHMARKS.md has what that costs certify.
+#[tactic(auto, unfolding(model::specs::Families::family_of), using(tables::proofs::Laws::last_arm))]
 fn set_of(k: usize) -> usize
     requires { k < family_count }
     ensures { result ≡ (family_of k).set }
@@ -118,14 +133,34 @@ fn set_of(k: usize) -> usize
     }
 }
 
-// The multiplier of row p. With its family a constant, inlining leaves a few products and one read.
-pub fn multiplier_at(ms: &[i64], rows_at: &RowStarts, c: Counts, p: Place) -> Multiplier
-    requires { Counted c × (RowsAt ms.now rows_at.now c × Member (row_boxes c) (index_of p)) }
-    ensures { result ≡ multiplier_of (get_or ms.now (number (row_boxes c) (index_of p)) (pos 0)) }
-{
-    let k = p.kind;
-    let o = inside_of(c, set_of(k), p.year, p.first, p.second, p.slice);
-    multiplier_in(ms, rows_at[k] + o)
+// A multiplier for every row, with the counts and the starts of the families.
+#[derive(Drop)]
+pub struct Multipliers<'a> {
+    pub list: &'a [i64],
+    pub counts: Counts,
+    pub starts: RowStarts,
+    pub ghost counted: { Counted counts },
+    pub ghost laid_out: { RowsAt list.now starts counts },
+}
+
+impl Multipliers<'_> {
+    // The multiplier of row p. With its family a constant, inlining leaves a few products and one read.
+    pub fn at(&self, p: Place) -> Multiplier
+        requires { Member (row_boxes self.now.counts) (index_of p) }
+        ensures { result ≡ multiplier_of (get_or self.now.list.now (number (row_boxes self.now.counts) (index_of p)) (pos 0)) }
+    {
+        let k = p.kind;
+        let o = inside_of(self.counts, set_of(k), p.year, p.first, p.second, p.slice);
+        multiplier_in(self.list, self.starts[k] + o)
+    }
+}
+
+// Data whose entries are in range, with a multiplier for each of its rows: what prices the columns and makes the gap.
+#[derive(Drop)]
+pub struct Pricing<'a> {
+    pub tested: TestedTables<'a>,
+    pub multipliers: Multipliers<'a>,
+    pub ghost same_counts: { multipliers.counts ≡ tested.tables.now.counts },
 }
 
 // The largest size below zero: 2^40 in an equality, 0 elsewhere.
@@ -149,19 +184,19 @@ fn in_range(m: Multiplier, equal: bool) -> bool
 
 // Refusal 10: every multiplier in the order of the rows, left at the first that is out of range.
 // A family's rows follow one another, `sizes[k]` of them.
-fn test_ranges(ms: &[i64], shape: Shape) -> Outcome
+fn test_ranges(ms: &[i64], shape: Shape) -> Result<(), Refusal>
     requires { Shaped shape × (length ms.now ≡ count (row_boxes shape.counts)) }
     ensures { (D : Data) → D.counts ≡ shape.counts → result ≡ outcome (multipliers_fault D ms.now) }
 {
     let mut row = 0;
-    let mut answer = Outcome::Fine;
+    let mut answer = Ok(());
     'walk: for k in 0..FAMILY_COUNT {
         let f = family_at(k);
         let equal = f.equal;
         for i in 0..shape.sizes[k] {
             let m = multiplier_in(ms, row);
             if !in_range(m, equal) {
-                answer = Outcome::Fails(Refusal::Multiplier(row));
+                answer = Err(Refusal::Multiplier(row));
                 break 'walk;
             }
             row += 1;
@@ -171,14 +206,14 @@ fn test_ranges(ms: &[i64], shape: Shape) -> Outcome
 }
 
 // Refusals 9 and 10.
-pub fn test_multipliers(ms: &[i64], shape: Shape) -> Outcome
+pub fn test_multipliers(ms: &[i64], shape: Shape) -> Result<(), Refusal>
     requires { Shaped shape }
     ensures { (D : Data) → D.counts ≡ shape.counts → result ≡ outcome (or_else (multiplier_count_fault D ms.now) (multipliers_fault D ms.now)) }
 {
     let rows_at = row_starts(shape);
     let whole = rows_at[FAMILY_COUNT];
     if ms.len() != whole {
-        return Outcome::Fails(Refusal::MultiplierCount(whole));
+        return Err(Refusal::MultiplierCount(whole));
     }
     test_ranges(ms, shape)
 }

@@ -8,8 +8,7 @@ use native.Mathlib.Numerals.{add-one}
 use native.Mathlib.Omega.{arith}
 use lib.ListN.{get_or}
 use lib.Dec.{eqb}
-use Rattle.capped.specs.declared.Sum.{Sum}
-use Rattle.capped.specs.Cap.{cap, plus, times}
+use Rattle.capped.specs.Cap.{cap, plus, times, Sum}
 use Rattle.capped.proofs.Laws.{plus-cap, both-cap, times-cap}
 use Rattle.sums.specs.Sum.{sum, on}
 use Rattle.sums.proofs.Tests.{on_both}
@@ -22,7 +21,7 @@ use Rattle.model.specs.Counts.{slices_of, season_length, [s], [g]}
 use Rattle.model.specs.Data.{Data, G, S, zone, fuel, duration, heat_rate, emission, table_count}
 use Rattle.model.specs.Columns.{gen}
 use Rattle.model.specs.Families.{season_sum, available, fuel_use, zone_emission, system_emission}
-use Rattle.tables.specs.Layout.{Counted, TablesAt, EntryAt, table_sets}
+use Rattle.tables.specs.Layout.{Counted}
 use Rattle.energy.specs.Energies.{Energies, energy_at, both_if, all_if, all_of, year_energy}
 
 -- Loops
@@ -64,21 +63,6 @@ pub season-is : (D : Data) {c : Counts} {n : ℕ} (q : ℕ) (f : ℕ → ℕ) �
     → sum n (λ i. f (q * season_length c + i)) ≡ season_sum D q f
 season-is D q f e h = rw (e, h)
 
--- What the readers ask
-
-pub plant-read : {l tables-at : List ℕ} {c : Counts} {t g : ℕ} → TablesAt l tables-at c → t < table_count → get_or table_sets t 0 ≡ [g] → g < c.plants → EntryAt l tables-at c t [g] 0 g 0 0
-plant-read n h e hg =
-    record { tables_at = n; table = h; set = e; inside = record { year = omega arith; «first» = hg; second = omega arith; slice = omega arith } }
-
-pub duration-read : {l tables-at : List ℕ} {c : Counts} {q i : ℕ} → q < c.seasons → i < season_length c → TablesAt l tables-at c → EntryAt l tables-at c 2 [s] 0 0 0 (q * season_length c + i)
-duration-read hq hi n =
-    record {
-      tables_at = n;
-      table = omega arith;
-      set = refl;
-      inside = record { year = omega arith; «first» = omega arith; second = omega arith; slice = slice-below n.counted hq hi };
-    }
-
 -- Sums that are `cap` of exact numbers
 
 if-cap : (b : Bool) (m n : ℕ) → both_if b (cap m) (cap n) ≡ cap (m + on b n)
@@ -95,7 +79,7 @@ slices-by-season : (c : Counts) (f : ℕ → ℕ) → sum (slices_of c) f ≡ su
 slices-by-season c f = rw (mul_assoc c.seasons c.days c.hours) (sum-flat c.seasons (season_length c) f)
 
 -- The energies are those of the plan: what the rows of families 10, 17, 19 and 20 cite
-module _ {D : Data} {x : Index → ℕ} {energy : List (List ℕ)} {c : Counts} (n : Energies D x energy c) (e : D.counts ≡ c) {y : ℕ} (hy : y < c.years) where
+module _ {D : Data} {x : Index → ℕ} {energy : List Sum} {c : Counts} (n : Energies D x energy c) (e : D.counts ≡ c) {y : ℕ} (hy : y < c.years) where
   season-energy : (f g q : ℕ) → g < c.plants → q < c.seasons
       → times (energy_at c energy y g q) f ≡ cap (season_sum D q (λ s. f * duration D s * x (gen y g s)))
   season-energy f g q hg hq =

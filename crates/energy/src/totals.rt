@@ -2,52 +2,44 @@
 ghost use Rattle.std.specs.Prelude.{◌≡◌, ◌&&◌, ◌+◌, ◌*◌, ◌<◌, eqb, length, get_or};
 ghost use Rattle.capped.specs.Cap.{cap};
 ghost use Rattle.model.specs.Counts.{slices_of};
-ghost use Rattle.model.specs.Data.{read, zone, fuel, duration, heat_rate, emission};
+ghost use Rattle.model.specs.Data.{zone, fuel, duration, heat_rate, emission};
 ghost use Rattle.model.specs.Families.{season_sum};
-ghost use Rattle.tables.specs.Layout.{Counted, TablesAt};
+ghost use Rattle.tables.specs.Layout.{Counted};
 ghost use Rattle.energy.specs.Energies.{energy_at, both_if, all_if, all_of, year_energy, energy_count};
+ghost use Rattle.tables.specs.Lists.{data_of};
 
-use capped::{Kept, Sum};
+use capped::Sum;
 use model::Counts;
-use parts::slices::both;
 use parts::years::part_at;
-use tables::entries::{by_plant, by_slice};
+use tables::lists::Tables;
 use tables::names::{DURATION, EMISSION, FUEL, HEAT_RATE, ZONE};
-use tables::starts::Starts;
 
 // A plant's energy in every year and season, as many of each as there may be: 10 years, 32 plants and 4 seasons.
 pub const ENERGY_COUNT: usize = 1280;
 
-pub type EnergyTable = [Kept; ENERGY_COUNT];
+pub type EnergyTable = [Sum; ENERGY_COUNT];
 
 // Σ Dur·gen of a plant over the slices of season q, from the year's part of gen.
-pub fn season_energy(
-    data: &[u32],
-    outputs: &[u32],
-    tables_at: &Starts,
-    c: Counts,
-    g: usize,
-    q: usize,
-) -> Sum
-    requires { TablesAt «data».now tables_at.now c × ((length outputs.now ≡ c.plants * slices_of c) × ((g < c.plants) × (q < c.seasons))) }
-    ensures { result ≡ cap (season_sum (read «data».now) q (λ s. duration (read «data».now) s * get_or outputs.now (g * slices_of c + s) 0)) }
+pub fn season_energy(tables: &Tables, outputs: &[u32], g: usize, q: usize) -> Sum
+    requires { (length outputs.now ≡ tables.now.counts.plants * slices_of tables.now.counts) × ((g < tables.now.counts.plants) × (q < tables.now.counts.seasons)) }
+    ensures { result ≡ cap (season_sum (data_of tables.now) q (λ s. duration (data_of tables.now) s * get_or outputs.now (g * slices_of tables.now.counts + s) 0)) }
 {
-    let p = c.days * c.hours;
+    let p = tables.counts.days * tables.counts.hours;
     let from = q * p;
     let mut total = capped::zero();
     for i in 0..p {
-        let hours = by_slice(data, tables_at, c, DURATION, from + i);
-        total = capped::add_product(total, hours, part_at(outputs, c, g, from + i));
+        let hours = tables.by_slice(DURATION, from + i);
+        total = capped::add_product(total, hours, part_at(outputs, tables.counts, g, from + i));
     }
     total
 }
 
 // The energy of a year, plant and season.
 pub fn energy_at(energy: &EnergyTable, c: Counts, y: usize, g: usize, q: usize) -> Sum
-    requires { Counted c × ((length energy.now ≡ energy_count) × ((y < c.years) × ((g < c.plants) × (q < c.seasons)))) }
+    requires { Counted c × ((y < c.years) × ((g < c.plants) × (q < c.seasons))) }
     ensures { result ≡ energy_at c energy.now y g q }
 {
-    capped::sum_kept(energy[(y * c.plants + g) * c.seasons + q])
+    energy[(y * c.plants + g) * c.seasons + q]
 }
 
 // factor·Σ of a plant's energies over the seasons of year y, added to a sum where a test holds.
@@ -60,7 +52,7 @@ fn add_energy_if(
     y: usize,
     g: usize,
 ) -> Sum
-    requires { Counted c × ((length energy.now ≡ energy_count) × ((y < c.years) × (g < c.plants))) }
+    requires { Counted c × ((y < c.years) × (g < c.plants)) }
     ensures { result ≡ both_if here total (year_energy c energy.now factor y g) }
 {
     if !here {
@@ -74,30 +66,19 @@ fn add_energy_if(
 }
 
 // Σ Dur·HeatRate·gen over the plants of zone z and fuel f, in year y.
-pub fn burned(
-    data: &[u32],
-    tables_at: &Starts,
-    c: Counts,
-    energy: &EnergyTable,
-    y: usize,
-    z: u64,
-    f: u64,
-) -> Sum
-    requires { TablesAt «data».now tables_at.now c × ((length energy.now ≡ energy_count) × (y < c.years)) }
-    ensures { result ≡ all_if c.plants (λ g. eqb (zone (read «data».now) g) z && eqb (fuel (read «data».now) g) f) (λ g. year_energy c energy.now (heat_rate (read «data».now) g) y g) }
+pub fn burned(tables: &Tables, energy: &EnergyTable, y: usize, z: u64, f: u64) -> Sum
+    requires { y < tables.now.counts.years }
+    ensures { result ≡ all_if tables.now.counts.plants (λ g. eqb (zone (data_of tables.now) g) z && eqb (fuel (data_of tables.now) g) f) (λ g. year_energy tables.now.counts energy.now (heat_rate (data_of tables.now) g) y g) }
 {
     let mut total = capped::zero();
-    for g in 0..c.plants {
-        let here = both(
-            by_plant(data, tables_at, c, ZONE, g) == z,
-            by_plant(data, tables_at, c, FUEL, g) == f,
-        );
+    for g in 0..tables.counts.plants {
+        let here = (tables.by_plant(ZONE, g) == z) & (tables.by_plant(FUEL, g) == f);
         total = add_energy_if(
             here,
             total,
-            by_plant(data, tables_at, c, HEAT_RATE, g),
+            tables.by_plant(HEAT_RATE, g),
             energy,
-            c,
+            tables.counts,
             y,
             g,
         );
@@ -106,26 +87,19 @@ pub fn burned(
 }
 
 // Σ Dur·E·gen over the plants of zone z, in year y.
-pub fn emitted_in(
-    data: &[u32],
-    tables_at: &Starts,
-    c: Counts,
-    energy: &EnergyTable,
-    y: usize,
-    z: u64,
-) -> Sum
-    requires { TablesAt «data».now tables_at.now c × ((length energy.now ≡ energy_count) × (y < c.years)) }
-    ensures { result ≡ all_if c.plants (λ g. eqb (zone (read «data».now) g) z) (λ g. year_energy c energy.now (emission (read «data».now) g) y g) }
+pub fn emitted_in(tables: &Tables, energy: &EnergyTable, y: usize, z: u64) -> Sum
+    requires { y < tables.now.counts.years }
+    ensures { result ≡ all_if tables.now.counts.plants (λ g. eqb (zone (data_of tables.now) g) z) (λ g. year_energy tables.now.counts energy.now (emission (data_of tables.now) g) y g) }
 {
     let mut total = capped::zero();
-    for g in 0..c.plants {
-        let here = by_plant(data, tables_at, c, ZONE, g) == z;
+    for g in 0..tables.counts.plants {
+        let here = tables.by_plant(ZONE, g) == z;
         total = add_energy_if(
             here,
             total,
-            by_plant(data, tables_at, c, EMISSION, g),
+            tables.by_plant(EMISSION, g),
             energy,
-            c,
+            tables.counts,
             y,
             g,
         );
@@ -134,18 +108,18 @@ pub fn emitted_in(
 }
 
 // Σ Dur·E·gen over all plants, in year y.
-pub fn emitted(data: &[u32], tables_at: &Starts, c: Counts, energy: &EnergyTable, y: usize) -> Sum
-    requires { TablesAt «data».now tables_at.now c × ((length energy.now ≡ energy_count) × (y < c.years)) }
-    ensures { result ≡ all_of c.plants (λ g. year_energy c energy.now (emission (read «data».now) g) y g) }
+pub fn emitted(tables: &Tables, energy: &EnergyTable, y: usize) -> Sum
+    requires { y < tables.now.counts.years }
+    ensures { result ≡ all_of tables.now.counts.plants (λ g. year_energy tables.now.counts energy.now (emission (data_of tables.now) g) y g) }
 {
     let mut total = capped::zero();
-    for g in 0..c.plants {
+    for g in 0..tables.counts.plants {
         total = add_energy_if(
             true,
             total,
-            by_plant(data, tables_at, c, EMISSION, g),
+            tables.by_plant(EMISSION, g),
             energy,
-            c,
+            tables.counts,
             y,
             g,
         );

@@ -2,31 +2,31 @@
 #![tactic(auto)]
 
 ghost use Rattle.std.specs.Prelude.{◌≡◌};
-ghost use Rattle.model.specs.Data.{read};
 ghost use Rattle.model.specs.Tests.{entries_fault};
-ghost use Rattle.tables.specs.Layout.{outcome, TablesAt};
+ghost use Rattle.model.specs.Calls.{outcome};
+ghost use Rattle.tables.specs.Lists.{data_of};
 
-use model::{Counts, Outcome, Refusal, TABLE_COUNT};
+use model::{Refusal, TABLE_COUNT};
 use ranges::{in_range, range_at};
-use tables::starts::{Starts, table_box};
+use tables::lists::Tables;
+use tables::starts::table_box;
 
 // Refusal 3: every entry in the order of the list, left at the first that is out of range.
 // The range is found before the slices, since none depends on the slice.
-pub fn test_entries(data: &[u32], tables_at: &Starts, c: Counts) -> Outcome
-    requires { TablesAt «data».now tables_at.now c }
-    ensures { result ≡ outcome (entries_fault (read «data».now)) }
+pub fn test_entries(tables: &Tables) -> Result<(), Refusal>
+    ensures { result ≡ outcome (entries_fault (data_of tables.now)) }
 {
     let mut place = 7;
-    let mut answer = Outcome::Fine;
+    let mut answer = Ok(());
     'walk: for t in 0..TABLE_COUNT {
-        let b = table_box(c, t);
+        let b = table_box(tables.counts, t);
         for y in 0..b.years {
             for i in 0..b.firsts {
                 for j in 0..b.seconds {
-                    let r = range_at(data, tables_at, c, t, i, j);
+                    let r = range_at(tables, t, i, j);
                     for s in 0..b.slices {
-                        if !in_range(r, data[place]) {
-                            answer = Outcome::Fails(Refusal::Entry(place));
+                        if !in_range(r, tables.list[place]) {
+                            answer = Err(Refusal::Entry(place));
                             break 'walk;
                         }
                         place += 1;

@@ -5,78 +5,71 @@
 ghost use Rattle.std.specs.Prelude.{◌≡◌};
 ghost use Rattle.sums.specs.Span.{fine};
 ghost use Rattle.model.specs.declared.Answer.TheVariants.{Accepted};
-ghost use Rattle.model.specs.Data.{read};
 ghost use Rattle.model.specs.Tests.{data_fault};
 ghost use Rattle.model.specs.Calls.{check as checkSpec, certify as certifySpec, post as postSpec, posted, answer_code, certificate_code};
 ghost use Rattle.model.specs.Rival.{Binds};
-ghost use Rattle.tables.specs.Layout.{TablesAt, ColumnsAt, plan_entry};
 ghost use Rattle.epm.specs.Answers.{rows_and_cost};
+ghost use Rattle.tables.specs.Lists.{data_of, entry_of};
 
+use tables::lists::Case;
 use boards::put_after;
 use certificates::issue;
 use compared::Amount;
 use data_tests::{counts_of, test_data};
 use energy::totals::ENERGY_COUNT;
 use energy_table::fill_energies;
-use model::{Answer, COLUMN_KIND_COUNT, Certificate, Counts, Outcome, Refusal};
+use model::{COLUMN_KIND_COUNT, Certificate, Refusal};
 use plan_tests::test_plan;
 use prices::cost_of;
 use row_tests::test_rows;
-use tables::starts::{Starts, column_starts, table_starts};
+use tables::starts::{column_starts, table_starts};
 
 // Refusals 6, 7 and 8, and the cost.
-fn price(
-    data: &[u32],
-    scale: u32,
-    plan: &[u32],
-    tables_at: &Starts,
-    columns_at: &Starts,
-    c: Counts,
-) -> Answer
-    requires { TablesAt «data».now tables_at.now c × ((data_fault «data».now ≡ fine) × ColumnsAt plan.now columns_at.now c) }
-    ensures { result ≡ rows_and_cost (read «data».now) scale (plan_entry c plan.now) }
+fn price(case: &Case, scale: u32) -> Result<u64, Refusal>
+    requires { data_fault case.now.tables.list.now ≡ fine }
+    ensures { result ≡ rows_and_cost (data_of case.now.tables) scale (entry_of case.now.plan) }
 {
     let mut energy = [capped::keep(capped::zero()); ENERGY_COUNT];
-    fill_energies(data, plan, tables_at, columns_at, c, &mut energy);
-    match test_rows(data, plan, &energy, tables_at, columns_at, c, scale as u64) {
-        Outcome::Fails(r) => return Answer::Refused(r),
-        Outcome::Fine => {}
+    fill_energies(case, &mut energy);
+    match test_rows(case, &energy, scale as u64) {
+        Err(r) => return Err(r),
+        Ok(()) => {}
     }
-    match compared::value(cost_of(data, plan, tables_at, columns_at, c)) {
-        Amount::Exactly(cost) => Answer::Accepted(cost),
-        Amount::Above => Answer::Refused(Refusal::CostOffScale),
+    match compared::value(cost_of(case)) {
+        Amount::Exactly(cost) => Ok(cost),
+        Amount::Above => Err(Refusal::CostOffScale),
     }
 }
 
 // check: data, N, plan; the cost, or the first refusal in the order of documents 01 and 02.
-pub fn check(data: &[u32], scale: u32, plan: &[u32]) -> Answer
+pub fn check(data: &[u32], scale: u32, plan: &[u32]) -> Result<u64, Refusal>
     ensures { (answer_code result ≡ answer_code (checkSpec «data».now scale plan.now))
         × (result ≡ checkSpec «data».now scale plan.now) }
 {
     match test_data(data) {
-        Outcome::Fails(r) => return Answer::Refused(r),
-        Outcome::Fine => {}
+        Err(r) => return Err(r),
+        Ok(()) => {}
     }
     let c = counts_of(data);
     let tables_at = table_starts(c);
     let columns_at = column_starts(c);
     match test_plan(scale, plan.len(), columns_at[COLUMN_KIND_COUNT]) {
-        Outcome::Fails(r) => return Answer::Refused(r),
-        Outcome::Fine => {}
+        Err(r) => return Err(r),
+        Ok(()) => {}
     }
     price(data, scale, plan, &tables_at, &columns_at, c)
 }
 
 // certify: data, N, plan, one multiplier for each row; cost and gap, or the first refusal in the order of documents 01 and 02.
 // Demand 3 is the last part of its contract: an issued certificate binds every rival plan at every scale (`Binds`, model/specs/Rival.antt).
-pub fn certify(data: &[u32], scale: u32, plan: &[u32], multipliers: &[i64]) -> Certificate
+pub fn certify(data: &[u32], scale: u32, plan: &[u32], multipliers: &[i64]) -> Result<Certificate, Refusal>
     ensures { (certificate_code result ≡ certificate_code (certifySpec «data».now scale plan.now multipliers.now))
         × ((result ≡ certifySpec «data».now scale plan.now multipliers.now) × Binds «data».now scale result) }
 {
     let checked = check(data, scale, plan);
     match checked {
-        Answer::Refused(r) => Certificate::Withheld(r),
-        Answer::Accepted(cost) => issue(data, scale, multipliers, cost),
+        Err(r) => Err(r),
+        Ok(cost) => issue(data, scale, multipliers, cost),
     }
 }
 
@@ -88,7 +81,7 @@ pub fn post(
     year: usize,
     board: &mut [u32],
     start: usize,
-) -> Answer
+) -> Result<u64, Refusal>
     ensures { (answer_code result ≡ answer_code (postSpec «data».now scale plan.now year board.old start))
         × ((result ≡ postSpec «data».now scale plan.now year board.old start)
         × (board.new ≡ posted «data».now scale plan.now year board.old start)) }

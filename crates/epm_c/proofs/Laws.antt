@@ -1,4 +1,6 @@
 -- An answer where there is room for its two figures, and what it says of rival plans.
+use Rattle.model.specs.declared.Certificate.{Certificate}
+use Rattle.std.specs.Prelude.{Result, Err}
 use mathlib.Core.Path.{◌≡◌, refl, sym, ◌∙◌, ap}
 use mathlib.Core.Bool.{cond}
 use mathlib.Core.List.{List, [], ◌∷◌}
@@ -10,10 +12,8 @@ use borrow.Author.Tests.{le-ltb}
 use Rattle.model.specs.declared.Code.{Code}
 use Rattle.model.specs.declared.Refusal.{Refusal}
 use Rattle.model.specs.declared.Refusal.TheVariants.{Shape, DataLength, Entry, Scale, PlanLength, RowOffScale, Broken, CostOffScale, MultiplierCount, Multiplier, ColumnOffScale, Underpriced, GapOffScale, Board, Frame, Storage}
-use Rattle.model.specs.declared.Certificate.{Certificate}
-use Rattle.model.specs.declared.Certificate.TheVariants.{Issued, Withheld}
 use Rattle.model.specs.Data.{read}
-use Rattle.model.specs.Calls.{code_of, certificate_code, certify}
+use Rattle.model.specs.Calls.{code_of, certificate_code, certify, issued}
 use Rattle.model.specs.Rival.{Bounds, Binds}
 use Rattle.model.proofs.Demand.{demand3}
 use Rattle.exports.specs.Figures.{figures}
@@ -49,11 +49,11 @@ refused (Frame n) e = omega arith
 refused (Storage g) e = omega arith
 
 -- an answer of certify by its number and figures
-code-binds : (l : List ℕ) (N : ℕ) (a : Certificate) → Binds l N a → (certificate_code a).number ≡ 0
+code-binds : (l : List ℕ) (N : ℕ) (a : Result Certificate Refusal) → Binds l N a → (certificate_code a).number ≡ 0
     → Bounds (read l) N (certificate_code a).first (certificate_code a).second
 unfolding certificate_code
-code-binds l N (Issued c g) b e = b
-code-binds l N (Withheld r) b e = absurd (refused r e)
+code-binds l N (issued c g) b e = b
+code-binds l N (Err r) b e = absurd (refused r e)
 
 -- the figures are what stands in the first two places
 two-figures : (out : List ℕ) (c : Code) → 2 ≤ length out → (get_or (figures out c) 0 0 ≡ c.first) × (get_or (figures out c) 1 0 ≡ c.second)

@@ -8,9 +8,8 @@ use lib.Dec.{leb}
 use lib.IntN.{ℤ}
 use lib.ListN.{length, get_or}
 use borrow.Author.Tests.{leb-true, leb-false}
-use Rattle.capped.specs.declared.Sum.{Sum}
 use Rattle.compared.specs.declared.Balance.TheVariants.{Is}
-use Rattle.capped.specs.Cap.{limit, cap}
+use Rattle.capped.specs.Cap.{limit, cap, Sum}
 use Rattle.capped.proofs.Laws.{both-cap}
 use Rattle.compared.proofs.Laws.{le-difference}
 use Rattle.sums.specs.declared.Box.{Box}

@@ -1,7 +1,6 @@
 -- The figures of a row, a column and an entry, by the model's definitions. A sum above the limit has no figure.
 use Rattle.std.specs.Prelude.{List, ℕ, ◌+◌, ℤ}
-use Rattle.capped.specs.declared.Sum.{Sum}
-use Rattle.capped.specs.Cap.{cap, both}
+use Rattle.capped.specs.Cap.{cap, both, Sum}
 use Rattle.compared.specs.Compared.{told, net_of}
 use Rattle.sums.specs.Index.{Index, index}
 use Rattle.model.specs.Data.{Data}

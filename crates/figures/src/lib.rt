@@ -12,11 +12,10 @@ ghost use Rattle.model.specs.Columns.{column_boxes, entries};
 ghost use Rattle.model.specs.Families.{row_boxes};
 ghost use Rattle.model.specs.Prices.{price};
 ghost use Rattle.model.specs.Tests.{head_fault, counts_fault, length_fault, entries_fault, data_fault, priced⁺, priced⁻, column_fault};
-ghost use Rattle.tables.specs.Layout.{TablesAt, ColumnsAt, plan_entry};
 ghost use Rattle.energy.specs.Energies.{Energies};
 ghost use Rattle.row_sums.specs.Ready.{sides_of};
-ghost use Rattle.column_terms.specs.Pairs.{Ready};
 ghost use Rattle.figures.specs.Figures.{told_sides, told_pair, row_figures, column_figures, entry_figures};
+ghost use Rattle.tables.specs.Lists.{data_of, entry_of};
 
 use capped::Sum;
 use column_prices::{hours_of, unit_price};
@@ -24,19 +23,18 @@ use column_terms::Pair;
 use columns::column_sums;
 use compared::{Amount, Balance};
 use data_tests::counts_of;
-use duals::{RowStarts, row_starts};
+use duals::{Pricing, row_starts};
 use energy::totals::{ENERGY_COUNT, EnergyTable};
 use energy_table::fill_energies;
-use model::Counts;
 use parts::years::year_part;
 use ranges::range_at;
 use row_sums::Sides;
 use rows::row_sides;
 use sums::Place;
-use tables::entries::{number_at, wide};
+use tables::lists::{Case, number_at, wide};
 use tables::names::{CHARGE, GEN, LEVEL, RESERVE};
 use tables::sets::{shape_of, slices_of};
-use tables::starts::{Starts, column_starts, table_starts};
+use tables::starts::{column_starts, table_starts};
 
 // What a row's positive terms and its negative terms come to.
 #[derive(Clone, Copy)]
@@ -74,28 +72,16 @@ fn told_sides(sides: Sides) -> RowFigures
 }
 
 // The two sums of the row at a place.
-fn sides_at(
-    data: &[u32],
-    plan: &[u32],
-    energy: &EnergyTable,
-    tables_at: &Starts,
-    columns_at: &Starts,
-    c: Counts,
-    scale: u64,
-    p: Place,
-) -> Sides
-    requires { (TablesAt «data».now tables_at.now c × ((entries_fault (read «data».now) ≡ fine) × (ColumnsAt plan.now columns_at.now c × Energies (read «data».now) (plan_entry c plan.now) energy.now c)))
-        × Member (row_boxes c) (index_of p) }
-    ensures { result ≡ sides_of (read «data».now) scale (plan_entry c plan.now) (index_of p) }
+fn sides_at(case: &Case, energy: &EnergyTable, scale: u64, p: Place) -> Sides
+    requires { ((entries_fault (data_of case.now.tables) ≡ fine) × (Energies (data_of case.now.tables) (entry_of case.now.plan) energy.now case.now.plan.counts)) × (Member (row_boxes case.now.plan.counts) (index_of p)) }
+    ensures { result ≡ sides_of (data_of case.now.tables) scale (entry_of case.now.plan) (index_of p) }
 {
-    let places = c.plants * slices_of(c);
-    let outputs = year_part(plan, columns_at[GEN], places, p.year);
-    let reserves = year_part(plan, columns_at[RESERVE], places, p.year);
-    let charges = year_part(plan, columns_at[CHARGE], places, p.year);
-    let levels = year_part(plan, columns_at[LEVEL], places, p.year);
-    row_sides(
-        data, plan, outputs, reserves, charges, levels, energy, tables_at, columns_at, c, scale, p,
-    )
+    let places = case.plan.counts.plants * slices_of(case.plan.counts);
+    let outputs = year_part(&case.plan, GEN, p.year);
+    let reserves = year_part(&case.plan, RESERVE, p.year);
+    let charges = year_part(&case.plan, CHARGE, p.year);
+    let levels = year_part(&case.plan, LEVEL, p.year);
+    row_sides(case, outputs, reserves, charges, levels, energy, scale, p)
 }
 
 // A row of data and plan that passed refusals 1 to 3, 16 and 5.
@@ -134,20 +120,13 @@ fn told_pair(sums: Pair, charged: Sum) -> ColumnFigures
 }
 
 // The sums and the price of the column at a place.
-fn priced_at(
-    data: &[u32],
-    ms: &[i64],
-    tables_at: &Starts,
-    rows_at: &RowStarts,
-    c: Counts,
-    p: Place,
-) -> ColumnFigures
-    requires { Ready «data».now tables_at.now ms.now rows_at.now c × Member (column_boxes c) (index_of p) }
-    ensures { result ≡ column_figures (read «data».now) ms.now (index_of p) }
+fn priced_at(pricing: &Pricing, p: Place) -> ColumnFigures
+    requires { Member (column_boxes pricing.now.multipliers.counts) (index_of p) }
+    ensures { result ≡ column_figures (data_of pricing.now.tested.tables.now) pricing.now.multipliers.list.now (index_of p) }
 {
-    let sums = column_sums(data, ms, tables_at, rows_at, c, p);
-    let unit = unit_price(data, tables_at, c, p.kind, p.year, p.first, p.second);
-    let hours = hours_of(data, tables_at, c, p.kind, p.slice);
+    let sums = column_sums(pricing, p);
+    let unit = unit_price(pricing.tested.tables, p.kind, p.year, p.first, p.second);
+    let hours = hours_of(pricing.tested.tables, p.kind, p.slice);
     told_pair(sums, capped::scale(unit, hours))
 }
 

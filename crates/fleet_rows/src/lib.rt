@@ -1,115 +1,83 @@
 // Families 12 to 20: the rows of the fleet: capacity, builds, fuel, capital and emissions.
 #![tactic(auto)]
 
-ghost use Rattle.std.specs.Prelude.{◌≡◌, not, ◌&&◌, ◌||◌, ℕ, ◌+◌, ◌<◌, eqb, leb, ltb, length};
+ghost use Rattle.std.specs.Prelude.{◌≡◌, not, ◌&&◌, ◌||◌, ℕ, ◌+◌, ◌<◌, eqb, leb, ltb};
 ghost use Rattle.sums.specs.Index.{Index};
-ghost use Rattle.model.specs.Data.{read};
 ghost use Rattle.model.specs.Families.{row};
-ghost use Rattle.tables.specs.Layout.{TablesAt, ColumnsAt, plan_entry};
-ghost use Rattle.energy.specs.Energies.{Energies, energy_count};
+ghost use Rattle.energy.specs.Energies.{Energies};
 ghost use Rattle.row_sums.specs.Ready.{sides_of};
+ghost use Rattle.tables.specs.Lists.{data_of, entry_of};
 
+use tables::lists::{Case, Tables};
 use energy::totals::{EnergyTable, burned, emitted, emitted_in};
-use fleet_constants::{
-    capital_constant, fuel_use_constant, new_capacity_constant, stock_constant,
-    system_emission_constant, yearly_build_constant, zone_emission_constant,
-};
-use model::Counts;
-use parts::slices::long;
+use fleet_constants::{capital_constant, fuel_use_constant, new_capacity_constant, stock_constant, system_emission_constant, yearly_build_constant, zone_emission_constant};
 use row_sums::{Sides, at_most, empty, with_constant};
-use tables::entries::{by_plant, planned_by_year_plant};
 use tables::names::{BUILD, CAP, KIND, RETIRE, YEAR};
 use tables::sets::BY_YEAR_PLANT;
-use tables::starts::Starts;
 use terms::plants::capital_sum;
 use terms::years::{earlier, over_years};
 
 // 12 (34): existing, first year: cap = GenCap; later: cap = earlier cap − retire. Candidate: cap = earlier cap (0 in the first year) + build
-pub fn stock(
-    data: &[u32],
-    plan: &[u32],
-    tables_at: &Starts,
-    columns_at: &Starts,
-    c: Counts,
-    scale: u64,
-    y: usize,
-    g: usize,
-) -> Sides
-    requires { (TablesAt «data».now tables_at.now c × ColumnsAt plan.now columns_at.now c) × ((y < c.years) × (g < c.plants)) }
-    ensures { result ≡ sides_of (read «data».now) scale (plan_entry c plan.now) (row 12 y g 0 0) }
+pub fn stock(case: &Case, scale: u64, y: usize, g: usize) -> Sides
+    requires { (y < case.now.plan.counts.years) × (g < case.now.plan.counts.plants) }
+    ensures { result ≡ sides_of (data_of case.now.tables) scale (entry_of case.now.plan) (row 12 y g 0 0) }
 {
-    let own = capped::product(1, planned_by_year_plant(plan, columns_at, c, CAP, y, g));
-    let before = earlier(plan, columns_at, c, CAP, BY_YEAR_PLANT, y, g, 0);
-    if by_plant(data, tables_at, c, KIND, g) != 0 {
+    let own = capped::product(1, case.plan.by_year_plant(CAP, y, g));
+    let before = earlier(&case.plan, CAP, BY_YEAR_PLANT, y, g, 0);
+    if case.tables.by_plant(KIND, g) != 0 {
         return Sides {
             above: own,
             below: capped::add_product(
                 before,
                 1,
-                planned_by_year_plant(plan, columns_at, c, BUILD, y, g),
+                case.plan.by_year_plant(BUILD, y, g),
             ),
         };
     }
     if y == 0 {
-        return with_constant(own, before, scale, stock_constant(data, tables_at, c, y, g));
+        return with_constant(own, before, scale, stock_constant(&case.tables, y, g));
     }
     Sides {
         above: capped::add_product(
             own,
             1,
-            planned_by_year_plant(plan, columns_at, c, RETIRE, y, g),
+            case.plan.by_year_plant(RETIRE, y, g),
         ),
         below: before,
     }
 }
 
 // 13 (37): cap ≤ 0 for an existing plant from its retirement year on, for a candidate before its commission year
-pub fn life(
-    data: &[u32],
-    plan: &[u32],
-    tables_at: &Starts,
-    columns_at: &Starts,
-    c: Counts,
-    y: usize,
-    g: usize,
-) -> Sides
-    requires { (TablesAt «data».now tables_at.now c × ColumnsAt plan.now columns_at.now c) × ((y < c.years) × (g < c.plants)) }
-    ensures { (N : ℕ) → result ≡ sides_of (read «data».now) N (plan_entry c plan.now) (row 13 y g 0 0) }
+pub fn life(case: &Case, y: usize, g: usize) -> Sides
+    requires { (y < case.now.plan.counts.years) × (g < case.now.plan.counts.plants) }
+    ensures { (N : ℕ) → result ≡ sides_of (data_of case.now.tables) N (entry_of case.now.plan) (row 13 y g 0 0) }
 {
     if in_service(
-        by_plant(data, tables_at, c, KIND, g),
-        by_plant(data, tables_at, c, YEAR, g),
+        case.tables.by_plant(KIND, g),
+        case.tables.by_plant(YEAR, g),
         y,
     ) {
         return empty();
     }
     Sides {
         above: capped::zero(),
-        below: capped::product(1, planned_by_year_plant(plan, columns_at, c, CAP, y, g)),
+        below: capped::product(1, case.plan.by_year_plant(CAP, y, g)),
     }
 }
 
 // 14 (61): existing: in the first year build + retire ≤ 0, later build ≤ 0; candidate: retire ≤ 0
-pub fn fixed(
-    data: &[u32],
-    plan: &[u32],
-    tables_at: &Starts,
-    columns_at: &Starts,
-    c: Counts,
-    y: usize,
-    g: usize,
-) -> Sides
-    requires { (TablesAt «data».now tables_at.now c × ColumnsAt plan.now columns_at.now c) × ((y < c.years) × (g < c.plants)) }
-    ensures { (N : ℕ) → result ≡ sides_of (read «data».now) N (plan_entry c plan.now) (row 14 y g 0 0) }
+pub fn fixed(case: &Case, y: usize, g: usize) -> Sides
+    requires { (y < case.now.plan.counts.years) × (g < case.now.plan.counts.plants) }
+    ensures { (N : ℕ) → result ≡ sides_of (data_of case.now.tables) N (entry_of case.now.plan) (row 14 y g 0 0) }
 {
-    let retire = planned_by_year_plant(plan, columns_at, c, RETIRE, y, g);
-    if by_plant(data, tables_at, c, KIND, g) != 0 {
+    let retire = case.plan.by_year_plant(RETIRE, y, g);
+    if case.tables.by_plant(KIND, g) != 0 {
         return Sides {
             above: capped::zero(),
             below: capped::product(1, retire),
         };
     }
-    let build = capped::product(1, planned_by_year_plant(plan, columns_at, c, BUILD, y, g));
+    let build = capped::product(1, case.plan.by_year_plant(BUILD, y, g));
     Sides {
         above: capped::zero(),
         below: capped::add_product_if(y == 0, build, 1, retire),
@@ -117,128 +85,79 @@ pub fn fixed(
 }
 
 // 15 (55), candidate: Σ build ≤ MaxNewCap
-pub fn new_capacity(
-    data: &[u32],
-    plan: &[u32],
-    tables_at: &Starts,
-    columns_at: &Starts,
-    c: Counts,
-    scale: u64,
-    g: usize,
-) -> Sides
-    requires { (TablesAt «data».now tables_at.now c × ColumnsAt plan.now columns_at.now c) × (g < c.plants) }
-    ensures { result ≡ sides_of (read «data».now) scale (plan_entry c plan.now) (row 15 0 g 0 0) }
+pub fn new_capacity(case: &Case, scale: u64, g: usize) -> Sides
+    requires { g < case.now.plan.counts.plants }
+    ensures { result ≡ sides_of (data_of case.now.tables) scale (entry_of case.now.plan) (row 15 0 g 0 0) }
 {
-    if by_plant(data, tables_at, c, KIND, g) == 0 {
+    if case.tables.by_plant(KIND, g) == 0 {
         return empty();
     }
     at_most(
-        over_years(plan, columns_at, c, BUILD, BY_YEAR_PLANT, g, 0),
+        over_years(&case.plan, BUILD, BY_YEAR_PLANT, g, 0),
         scale,
-        new_capacity_constant(data, tables_at, c, g),
+        new_capacity_constant(&case.tables, g),
     )
 }
 
 // 16 (58), candidate: build ≤ BuildLimit·V
-pub fn yearly_build(
-    data: &[u32],
-    plan: &[u32],
-    tables_at: &Starts,
-    columns_at: &Starts,
-    c: Counts,
-    scale: u64,
-    y: usize,
-    g: usize,
-) -> Sides
-    requires { (TablesAt «data».now tables_at.now c × ColumnsAt plan.now columns_at.now c) × ((y < c.years) × (g < c.plants)) }
-    ensures { result ≡ sides_of (read «data».now) scale (plan_entry c plan.now) (row 16 y g 0 0) }
+pub fn yearly_build(case: &Case, scale: u64, y: usize, g: usize) -> Sides
+    requires { (y < case.now.plan.counts.years) × (g < case.now.plan.counts.plants) }
+    ensures { result ≡ sides_of (data_of case.now.tables) scale (entry_of case.now.plan) (row 16 y g 0 0) }
 {
-    if by_plant(data, tables_at, c, KIND, g) == 0 {
+    if case.tables.by_plant(KIND, g) == 0 {
         return empty();
     }
     at_most(
-        capped::product(1, planned_by_year_plant(plan, columns_at, c, BUILD, y, g)),
+        capped::product(1, case.plan.by_year_plant(BUILD, y, g)),
         scale,
-        yearly_build_constant(data, tables_at, c, y, g),
+        yearly_build_constant(&case.tables, y, g),
     )
 }
 
 // 17 (62): Σ Dur·HeatRate·gen of that zone and fuel ≤ 1000·MaxFuel
-pub fn fuel_use(
-    data: &[u32],
-    energy: &EnergyTable,
-    tables_at: &Starts,
-    c: Counts,
-    scale: u64,
-    y: usize,
-    z: usize,
-    f: usize,
-) -> Sides
-    requires { (TablesAt «data».now tables_at.now c × (length energy.now ≡ energy_count)) × ((y < c.years) × ((z < c.zones) × (f < c.fuels))) }
-    ensures { (x : Index → ℕ) → Energies (read «data».now) x energy.now c → result ≡ sides_of (read «data».now) scale x (row 17 y z f 0) }
+pub fn fuel_use(tables: &Tables, energy: &EnergyTable, scale: u64, y: usize, z: usize, f: usize) -> Sides
+    requires { (y < tables.now.counts.years) × ((z < tables.now.counts.zones) × (f < tables.now.counts.fuels)) }
+    ensures { (x : Index → ℕ) → Energies (data_of tables.now) x energy.now tables.now.counts → result ≡ sides_of (data_of tables.now) scale x (row 17 y z f 0) }
 {
     at_most(
-        burned(data, tables_at, c, energy, y, long(z), long(f)),
+        burned(tables, energy, y, z as u64, f as u64),
         scale,
-        fuel_use_constant(data, tables_at, c, y, f),
+        fuel_use_constant(tables, y, f),
     )
 }
 
 // 18 (64): Σ R·V·Annuity·cap of candidates ≤ 10⁹·MaxCapital
-pub fn capital(
-    data: &[u32],
-    plan: &[u32],
-    tables_at: &Starts,
-    columns_at: &Starts,
-    c: Counts,
-    scale: u64,
-) -> Sides
-    requires { TablesAt «data».now tables_at.now c × ColumnsAt plan.now columns_at.now c }
-    ensures { result ≡ sides_of (read «data».now) scale (plan_entry c plan.now) (row 18 0 0 0 0) }
+pub fn capital(case: &Case, scale: u64) -> Sides
+    ensures { result ≡ sides_of (data_of case.now.tables) scale (entry_of case.now.plan) (row 18 0 0 0 0) }
 {
     at_most(
-        capital_sum(data, plan, tables_at, columns_at, c),
+        capital_sum(case),
         scale,
-        capital_constant(data, tables_at, c),
+        capital_constant(&case.tables),
     )
 }
 
 // 19 (66): Σ Dur·E·gen in z ≤ 1000·zone cap
-pub fn zone_emission(
-    data: &[u32],
-    energy: &EnergyTable,
-    tables_at: &Starts,
-    c: Counts,
-    scale: u64,
-    y: usize,
-    z: usize,
-) -> Sides
-    requires { (TablesAt «data».now tables_at.now c × (length energy.now ≡ energy_count)) × ((y < c.years) × (z < c.zones)) }
-    ensures { (x : Index → ℕ) → Energies (read «data».now) x energy.now c → result ≡ sides_of (read «data».now) scale x (row 19 y z 0 0) }
+pub fn zone_emission(tables: &Tables, energy: &EnergyTable, scale: u64, y: usize, z: usize) -> Sides
+    requires { (y < tables.now.counts.years) × (z < tables.now.counts.zones) }
+    ensures { (x : Index → ℕ) → Energies (data_of tables.now) x energy.now tables.now.counts → result ≡ sides_of (data_of tables.now) scale x (row 19 y z 0 0) }
 {
     at_most(
-        emitted_in(data, tables_at, c, energy, y, long(z)),
+        emitted_in(tables, energy, y, z as u64),
         scale,
-        zone_emission_constant(data, tables_at, c, y, z),
+        zone_emission_constant(tables, y, z),
     )
 }
 
 // 20 (68): Σ Dur·E·gen ≤ 1000·system cap
-pub fn system_emission(
-    data: &[u32],
-    energy: &EnergyTable,
-    tables_at: &Starts,
-    c: Counts,
-    scale: u64,
-    y: usize,
-) -> Sides
-    requires { (TablesAt «data».now tables_at.now c × (length energy.now ≡ energy_count)) × (y < c.years) }
-    ensures { (x : Index → ℕ) → Energies (read «data».now) x energy.now c → result ≡ sides_of (read «data».now) scale x (row 20 y 0 0 0) }
+pub fn system_emission(tables: &Tables, energy: &EnergyTable, scale: u64, y: usize) -> Sides
+    requires { y < tables.now.counts.years }
+    ensures { (x : Index → ℕ) → Energies (data_of tables.now) x energy.now tables.now.counts → result ≡ sides_of (data_of tables.now) scale x (row 20 y 0 0 0) }
 {
     at_most(
-        emitted(data, tables_at, c, energy, y),
+        emitted(tables, energy, y),
         scale,
-        system_emission_constant(data, tables_at, c, y),
+        system_emission_constant(tables, y),
     )
 }
 
@@ -247,7 +166,7 @@ fn in_service(kind: u64, year: u64, y: usize) -> bool
     requires { y < 10 }
     ensures { result ≡ not ((eqb kind 0 && leb year (y + 1)) || (not (eqb kind 0) && ltb (y + 1) year)) }
 {
-    let this_year = long(y) + 1;
+    let this_year = y as u64 + 1;
     if kind == 0 {
         return this_year < year;
     }

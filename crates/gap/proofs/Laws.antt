@@ -1,5 +1,7 @@
 -- What the functions of the gap cite: a row's term, the families that are walked, what each of the five loops knows, and the answer.
 -- Assumes nothing.
+use Rattle.model.specs.declared.Refusal.{Refusal}
+use Rattle.std.specs.Prelude.{}
 use mathlib.Core.Path.{◌≡◌, refl, sym, ap, ◌∙◌}
 use mathlib.Core.Bool.{Bool, true, false, cond, ◌&&◌}
 use mathlib.Core.List.{List}
@@ -10,9 +12,8 @@ use lib.Dec.{leb, ltb}
 use lib.IntN.{ℤ, pos}
 use lib.ListN.{get_or}
 use borrow.Author.Tests.{le-leb, ltb-true}
-use Rattle.capped.specs.declared.Sum.{Sum}
 use Rattle.compared.specs.declared.Balance.TheVariants.{Unsure}
-use Rattle.capped.specs.Cap.{limit, cap, times}
+use Rattle.capped.specs.Cap.{limit, cap, times, Sum}
 use Rattle.compared.specs.Compared.{minus, net_of}
 use Rattle.capped.proofs.Laws.{plus-cap, times-cap}
 use Rattle.compared.proofs.Laws.{net-cap}
@@ -21,12 +22,11 @@ use Rattle.sums.specs.Sum.{sum}
 use Rattle.sums.specs.Index.{Index, index, box_of, number, Member}
 use Rattle.sums.proofs.Sums.{sum-one-more, sum-zero}
 use Rattle.model.specs.declared.Counts.{Counts}
-use Rattle.model.specs.declared.Certificate.TheVariants.{Issued}
 use Rattle.model.specs.declared.Refusal.TheVariants.{GapOffScale}
 use Rattle.model.specs.Data.{Data}
 use Rattle.model.specs.Families.{row_boxes, family_count}
 use Rattle.model.specs.Tests.{constant⁺, constant⁻, multiplier, m⁺, m⁻, constants⁺, constants⁻, unless, gap_fault, gap}
-use Rattle.model.specs.Calls.{certificate}
+use Rattle.model.specs.Calls.{certificate, issued}
 use Rattle.constants.specs.declared.Constant.{Constant}
 use Rattle.constants.specs.Constants.{constant_of, has_constant}
 use Rattle.row_constants.proofs.Laws.{without}
@@ -139,12 +139,12 @@ all-terms D ms e z h l =
 -- The answer
 
 -- a gap below zero counts as 0, as `-` of numbers has it
-cut_off : (c m n : ℕ) → settled c (minus m n) ≡ Issued c (m - n)
+cut_off : (c m n : ℕ) → settled c (minus m n) ≡ issued c (m - n)
 unfolding settled
 cut_off c m n = go (ltb m n) refl
   where
-    go : (b : Bool) → ltb m n ≡ b → settled c (minus m n) ≡ Issued c (m - n)
-    go true e = rw e (ap (Issued c) (omega (arith, ltb-true m n e)))
+    go : (b : Bool) → ltb m n ≡ b → settled c (minus m n) ≡ issued c (m - n)
+    go true e = rw e (ap (issued c) (omega (arith, ltb-true m n e)))
     go false e = rw e
 
 pub settled_is : (c a b : ℕ) → c ≤ limit

@@ -1,13 +1,14 @@
 -- The terms m·k of rows as the code sums them, by sign, and what it answers of their sums.
-use Rattle.std.specs.Prelude.{cond, List, ℕ, ◌+◌, ◌*◌, ◌-◌, ℤ}
+use Rattle.model.specs.declared.Refusal.{Refusal}
+use Rattle.model.specs.Calls.{issued}
+use Rattle.model.specs.declared.Certificate.{Certificate}
+use Rattle.std.specs.Prelude.{cond, List, ℕ, ◌+◌, ◌*◌, ◌-◌, ℤ, Result, Err}
 use Rattle.capped.specs.Cap.{cap, plus}
 use Rattle.compared.specs.declared.Balance.{Balance}
 use Rattle.compared.specs.declared.Balance.TheVariants.{Is, BelowZero, Unsure}
 use Rattle.sums.specs.declared.Box.{Box}
 use Rattle.sums.specs.Index.{Index, box, box_of}
 use Rattle.model.specs.declared.Counts.{Counts}
-use Rattle.model.specs.declared.Certificate.{Certificate}
-use Rattle.model.specs.declared.Certificate.TheVariants.{Issued, Withheld}
 use Rattle.model.specs.declared.Refusal.TheVariants.{GapOffScale}
 use Rattle.model.specs.Data.{Data}
 use Rattle.model.specs.Families.{row_boxes}
@@ -50,7 +51,7 @@ unfoldable pub walked_box : Counts → ℕ → Box
 walked_box c k = cond (has_constant k) (box_of (row_boxes c) k) (box 0 0 0 0)
 
 -- the certificate of a cost and of what is left of it with all terms N·m·k; a gap below zero counts as 0
-unfoldable pub settled : ℕ → Balance → Certificate
-settled c (Is g) = Issued c g
-settled c BelowZero = Issued c 0
-settled c Unsure = Withheld GapOffScale
+unfoldable pub settled : ℕ → Balance → Result Certificate Refusal
+settled c (Is g) = issued c g
+settled c BelowZero = issued c 0
+settled c Unsure = Err GapOffScale

@@ -4,26 +4,23 @@
 ghost use Rattle.std.specs.Prelude.{◌≡◌, ◌≤◌, ◌<◌};
 ghost use Rattle.capped.specs.Cap.{limit, cap};
 ghost use Rattle.compared.specs.Compared.{net_of};
-ghost use Rattle.sums.specs.Span.{fine};
 ghost use Rattle.sums.specs.Index.{index_of, Member};
-ghost use Rattle.model.specs.Data.{read};
 ghost use Rattle.model.specs.Families.{row_boxes, family_count};
-ghost use Rattle.model.specs.Tests.{entries_fault, gap_fault, gap};
+ghost use Rattle.model.specs.Tests.{gap_fault, gap};
 ghost use Rattle.model.specs.Calls.{certificate};
-ghost use Rattle.tables.specs.Layout.{Counted, TablesAt};
-ghost use Rattle.duals.specs.Multipliers.{RowsAt};
+ghost use Rattle.tables.specs.Layout.{Counted};
 ghost use Rattle.gap.specs.Signs.{with_row, with_term, walked_box, terms_of, settled};
+ghost use Rattle.tables.specs.Lists.{data_of};
 
 use capped::Sum;
 use compared::Balance;
 use constants::families::has_constant;
 use constants::{Constant, netted};
-use duals::{Multiplier, RowStarts, multiplier_at};
-use model::{Certificate, Counts, FAMILY_COUNT, Refusal};
+use duals::{Multiplier, Pricing};
+use model::{FAMILY_COUNT, Certificate, Counts, Refusal};
 use row_constants::constant_at;
 use sums::{Box, Place};
 use tables::sets::{box_of, family_at};
-use tables::starts::Starts;
 
 // The terms m·k of rows: those above zero and those below, summed apart.
 #[derive(Clone, Copy)]
@@ -46,20 +43,12 @@ fn with_row(t: BySign, m: Multiplier, k: Constant) -> BySign
 }
 
 // The term of row p added.
-fn add_term(
-    data: &[u32],
-    ms: &[i64],
-    tables_at: &Starts,
-    rows_at: &RowStarts,
-    c: Counts,
-    p: Place,
-    t: BySign,
-) -> BySign
-    requires { TablesAt «data».now tables_at.now c × ((entries_fault (read «data».now) ≡ fine) × (RowsAt ms.now rows_at.now c × Member (row_boxes c) (index_of p))) }
-    ensures { result ≡ with_term (read «data».now) ms.now t (index_of p) }
+fn add_term(pricing: &Pricing, p: Place, t: BySign) -> BySign
+    requires { Member (row_boxes pricing.now.multipliers.counts) (index_of p) }
+    ensures { result ≡ with_term (data_of pricing.now.tested.tables.now) pricing.now.multipliers.list.now t (index_of p) }
 {
-    let m = multiplier_at(ms, rows_at, c, p);
-    with_row(t, m, constant_at(data, tables_at, c, p))
+    let m = pricing.multipliers.at(p);
+    with_row(t, m, constant_at(&pricing.tested, p))
 }
 
 // The index set of a family; of one whose rows have no constant nothing is walked.
@@ -80,22 +69,15 @@ fn walked_box(c: Counts, k: usize) -> Box
 }
 
 // The terms m·k of all rows.
-pub fn constant_terms(
-    data: &[u32],
-    ms: &[i64],
-    tables_at: &Starts,
-    rows_at: &RowStarts,
-    c: Counts,
-) -> BySign
-    requires { TablesAt «data».now tables_at.now c × ((entries_fault (read «data».now) ≡ fine) × RowsAt ms.now rows_at.now c) }
-    ensures { result ≡ terms_of (read «data».now) ms.now }
+pub fn constant_terms(pricing: &Pricing) -> BySign
+    ensures { result ≡ terms_of (data_of pricing.now.tested.tables.now) pricing.now.multipliers.list.now }
 {
     let mut t = BySign {
         up: capped::zero(),
         down: capped::zero(),
     };
     for k in 0..FAMILY_COUNT {
-        let b = walked_box(c, k);
+        let b = walked_box(pricing.multipliers.counts, k);
         for y in 0..b.years {
             for i in 0..b.firsts {
                 for j in 0..b.seconds {
@@ -107,7 +89,7 @@ pub fn constant_terms(
                             second: j,
                             slice: s,
                         };
-                        t = add_term(data, ms, tables_at, rows_at, c, row, t);
+                        t = add_term(pricing, row, t);
                     }
                 }
             }
@@ -117,32 +99,24 @@ pub fn constant_terms(
 }
 
 // The certificate of a cost, with N·m·k summed by sign: cost and gap, or refusal 13.
-fn certificate_of(cost: u64, up: Sum, down: Sum) -> Certificate
+fn certificate_of(cost: u64, up: Sum, down: Sum) -> Result<Certificate, Refusal>
     ensures { result ≡ settled cost (net_of (cap cost) up down) }
 {
     let left = compared::net(capped::of(cost), up, down);
     match left {
-        Balance::Is(gap) => Certificate::Issued(cost, gap),
+        Balance::Is(gap) => Ok(Certificate { cost: cost, gap: gap }),
         // Never reached where the plan passed: it is a rival of its own, so the gap is not below zero (`WholeGap`).
-        Balance::BelowZero => Certificate::Issued(cost, 0),
-        Balance::Unsure => Certificate::Withheld(Refusal::GapOffScale),
+        Balance::BelowZero => Ok(Certificate { cost: cost, gap: 0 }),
+        Balance::Unsure => Err(Refusal::GapOffScale),
     }
 }
 
 // The gap beside a cost that passed refusal 8, or refusal 13. The cost is in neither sum.
-pub fn gap_of(
-    data: &[u32],
-    ms: &[i64],
-    tables_at: &Starts,
-    rows_at: &RowStarts,
-    c: Counts,
-    scale: u64,
-    cost: u64,
-) -> Certificate
-    requires { TablesAt «data».now tables_at.now c × ((entries_fault (read «data».now) ≡ fine) × (RowsAt ms.now rows_at.now c × (cost ≤ limit))) }
-    ensures { result ≡ certificate (gap_fault (read «data».now) ms.now scale) cost (gap (read «data».now) ms.now scale cost) }
+pub fn gap_of(pricing: &Pricing, scale: u64, cost: u64) -> Result<Certificate, Refusal>
+    requires { cost ≤ limit }
+    ensures { result ≡ certificate (gap_fault (data_of pricing.now.tested.tables.now) pricing.now.multipliers.list.now scale) cost (gap (data_of pricing.now.tested.tables.now) pricing.now.multipliers.list.now scale cost) }
 {
-    let t = constant_terms(data, ms, tables_at, rows_at, c);
+    let t = constant_terms(pricing);
     let up = t.up;
     let down = t.down;
     certificate_of(cost, capped::scale(up, scale), capped::scale(down, scale))

@@ -6,133 +6,72 @@ ghost use Rattle.capped.specs.Cap.{cap};
 ghost use Rattle.sums.specs.Sum.{sum};
 ghost use Rattle.sums.specs.Index.{index};
 ghost use Rattle.model.specs.Counts.{slices_of};
-ghost use Rattle.model.specs.Data.{read, duration};
-ghost use Rattle.tables.specs.Layout.{TablesAt, ColumnsAt, plan_entry};
+ghost use Rattle.model.specs.Data.{duration};
 ghost use Rattle.unit_prices.specs.Prices.{Hourly};
 ghost use Rattle.hour_costs.specs.Costs.{Hours, slices_cost, hourly_cost, hours_cost};
+ghost use Rattle.tables.specs.Lists.{data_of, entry_of};
 
 use capped::Sum;
-use model::Counts;
-use tables::entries::{by_slice, wide};
+use tables::lists::{Case, Plan, Tables, wide};
 use tables::names::{DURATION, GEN, RESERVE, SPINSHORT, SURPLUS, UNMET};
 use tables::sets::{inside_of, slices_of};
-use tables::starts::{Starts, column_box, column_set};
+use tables::starts::{column_box, column_set};
 use terms::plants::year_weight;
+use terms::totals::total;
 use unit_prices::hour_price;
 
 // The slices of plant or zone i in year y: a part of the plan.
-fn slices_at<'a>(
-    plan: &'a [u32],
-    columns_at: &Starts,
-    c: Counts,
-    t: usize,
-    y: usize,
-    i: usize,
-) -> &'a [u32]
-    requires { Hours plan.now columns_at.now c t y i }
-    ensures { (length result.now ≡ slices_of c) × ((s : ℕ) → s < slices_of c → get_or result.now s 0 ≡ plan_entry c plan.now (index t y i 0 s)) }
+#[tactic(auto, using(column_prices::proofs::Laws::column_laws))]
+fn slices_at<'a>(plan: &Plan<'a>, t: usize, y: usize, i: usize) -> &'a [u32]
+    requires { Hours plan.now.counts t y i }
+    ensures { (length result.now ≡ slices_of plan.now.counts) × ((s : ℕ) → s < slices_of plan.now.counts → get_or result.now s 0 ≡ entry_of plan.now (index t y i 0 s)) }
 {
-    let n = slices_of(c);
-    let first = inside_of(c, column_set(t), y, i, 0, 0);
-    part_of(plan, columns_at[t] + first, n)
-}
-
-// n entries of a list.
-fn part_of(list: &[u32], start: usize, n: usize) -> &[u32]
-    requires { start + n ≤ length list.now }
-    ensures { result.now ≡ take n (drop start list.now) }
-{
+    let n = slices_of(plan.counts);
+    let first = inside_of(plan.counts, column_set(t), y, i, 0, 0);
+    let start = plan.starts[t] + first;
     let end = start + n;
-    &list[start..end]
+    &plan.list[start..end]
 }
 
 // Σ Dur·entry over the slices of a part.
-fn weighted_hours(data: &[u32], tables_at: &Starts, c: Counts, part: &[u32]) -> Sum
-    requires { TablesAt «data».now tables_at.now c × (length part.now ≡ slices_of c) }
-    ensures { result ≡ cap (sum (slices_of c) (λ s. duration (read «data».now) s * get_or part.now s 0)) }
+fn weighted_hours(tables: &Tables, part: &[u32]) -> Sum
+    requires { length part.now ≡ slices_of tables.now.counts }
+    ensures { result ≡ cap (sum (slices_of tables.now.counts) (λ s. duration (data_of tables.now) s * get_or part.now s 0)) }
 {
     let mut total = capped::zero();
-    for s in 0..part.len() {
-        total = capped::add_product(
-            total,
-            by_slice(data, tables_at, c, DURATION, s),
-            wide(part[s]),
-        );
+    for (s, entry) in part.iter().enumerate() {
+        total = capped::add_product(total, tables.by_slice(DURATION, s), wide(*entry));
     }
     total
 }
 
 // Σ price·entry over the slices of plant or zone i in year y: the hours are summed first and priced once.
-fn slices_cost(
-    data: &[u32],
-    plan: &[u32],
-    tables_at: &Starts,
-    columns_at: &Starts,
-    c: Counts,
-    t: usize,
-    y: usize,
-    i: usize,
-) -> Sum
-    requires { TablesAt «data».now tables_at.now c × Hours plan.now columns_at.now c t y i }
-    ensures { result ≡ cap (slices_cost (read «data».now) c (plan_entry c plan.now) t y i) }
+fn slices_cost(case: &Case, t: usize, y: usize, i: usize) -> Sum
+    requires { Hours case.now.plan.counts t y i }
+    ensures { result ≡ cap (slices_cost (data_of case.now.tables) case.now.plan.counts (entry_of case.now.plan) t y i) }
 {
-    let share = year_weight(data, tables_at, c, y);
-    let price = capped::scale(hour_price(data, tables_at, c, t, y, i), share);
-    let hours = weighted_hours(data, tables_at, c, slices_at(plan, columns_at, c, t, y, i));
+    let share = year_weight(&case.tables, y);
+    let price = capped::scale(hour_price(&case.tables, t, y, i), share);
+    let hours = weighted_hours(&case.tables, slices_at(&case.plan, t, y, i));
     capped::multiply(price, hours)
 }
 
 // Σ price·entry of a table priced by the hour, in year y.
-fn hourly_cost(
-    data: &[u32],
-    plan: &[u32],
-    tables_at: &Starts,
-    columns_at: &Starts,
-    c: Counts,
-    t: usize,
-    y: usize,
-) -> Sum
-    requires { TablesAt «data».now tables_at.now c × (ColumnsAt plan.now columns_at.now c × (Hourly t × (y < c.years))) }
-    ensures { result ≡ cap (hourly_cost (read «data».now) c (plan_entry c plan.now) t y) }
+fn hourly_cost(case: &Case, t: usize, y: usize) -> Sum
+    requires { Hourly t × (y < case.now.plan.counts.years) }
+    ensures { result ≡ cap (hourly_cost (data_of case.now.tables) case.now.plan.counts (entry_of case.now.plan) t y) }
 {
-    let b = column_box(c, t);
-    let mut total = capped::zero();
-    for i in 0..b.firsts {
-        total = capped::join(
-            total,
-            slices_cost(data, plan, tables_at, columns_at, c, t, y, i),
-        );
-    }
-    total
+    let b = column_box(case.plan.counts, t);
+    total(b.firsts, |i| slices_cost(case, t, y, i))
 }
 
+// The kinds of column that are priced by the hour.
+const HOURLY: [usize; 5] = [GEN, RESERVE, UNMET, SURPLUS, SPINSHORT];
+
 // Σ price·entry of all tables priced by the hour, in year y.
-pub fn hours_cost(
-    data: &[u32],
-    plan: &[u32],
-    tables_at: &Starts,
-    columns_at: &Starts,
-    c: Counts,
-    y: usize,
-) -> Sum
-    requires { TablesAt «data».now tables_at.now c × (ColumnsAt plan.now columns_at.now c × (y < c.years)) }
-    ensures { result ≡ cap (hours_cost (read «data».now) c (plan_entry c plan.now) y) }
+pub fn hours_cost(case: &Case, y: usize) -> Sum
+    requires { y < case.now.plan.counts.years }
+    ensures { result ≡ cap (hours_cost (data_of case.now.tables) case.now.plan.counts (entry_of case.now.plan) y) }
 {
-    let output = hourly_cost(data, plan, tables_at, columns_at, c, GEN, y);
-    let with_reserve = capped::join(
-        output,
-        hourly_cost(data, plan, tables_at, columns_at, c, RESERVE, y),
-    );
-    let with_unmet = capped::join(
-        with_reserve,
-        hourly_cost(data, plan, tables_at, columns_at, c, UNMET, y),
-    );
-    let with_surplus = capped::join(
-        with_unmet,
-        hourly_cost(data, plan, tables_at, columns_at, c, SURPLUS, y),
-    );
-    capped::join(
-        with_surplus,
-        hourly_cost(data, plan, tables_at, columns_at, c, SPINSHORT, y),
-    )
+    total(HOURLY.len(), |k| hourly_cost(case, HOURLY[k], y))
 }

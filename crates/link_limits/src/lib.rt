@@ -3,23 +3,21 @@
 
 ghost use Rattle.std.specs.Prelude.{◌≡◌, not, ◌≤◌, ◌<◌, min, eqb};
 ghost use Rattle.sums.specs.Sum.{sum, least, on};
-ghost use Rattle.model.specs.Data.{read, tl, most32};
-ghost use Rattle.tables.specs.Layout.{TablesAt};
+ghost use Rattle.model.specs.Data.{tl, most32};
 ghost use Rattle.link_limits.specs.Limits.{most_into};
+ghost use Rattle.tables.specs.Lists.{data_of};
 
-use model::Counts;
-use tables::entries::by_link_season;
+use tables::lists::Tables;
 use tables::names::TL;
-use tables::starts::Starts;
 
 // Σ TL[u,z] over the other zones u, in season q.
-pub fn limits_into(data: &[u32], tables_at: &Starts, c: Counts, y: usize, z: usize, q: usize) -> u64
-    requires { TablesAt «data».now tables_at.now c × ((y < c.years) × ((z < c.zones) × (q < c.seasons))) }
-    ensures { (result ≡ sum c.zones (λ u. on (not (eqb u z)) (tl (read «data».now) y u z q))) × (result ≤ most_into) }
+pub fn limits_into(tables: &Tables, y: usize, z: usize, q: usize) -> u64
+    requires { (y < tables.now.counts.years) × ((z < tables.now.counts.zones) × (q < tables.now.counts.seasons)) }
+    ensures { (result ≡ sum tables.now.counts.zones (λ u. on (not (eqb u z)) (tl (data_of tables.now) y u z q))) × (result ≤ most_into) }
 {
     let mut total = 0;
-    for u in 0..c.zones {
-        total = total + where_other(u, z, by_link_season(data, tables_at, c, TL, y, u, z, q));
+    for u in 0..tables.counts.zones {
+        total = total + where_other(u, z, tables.by_link_season(TL, y, u, z, q));
     }
     total
 }
@@ -32,25 +30,25 @@ fn where_other(u: usize, z: usize, limit: u64) -> u64
 }
 
 // Σ of the lowest season limit of TL[u,z] over the other zones u.
-pub fn lowest_limits_into(data: &[u32], tables_at: &Starts, c: Counts, y: usize, z: usize) -> u64
-    requires { TablesAt «data».now tables_at.now c × ((y < c.years) × (z < c.zones)) }
-    ensures { (result ≡ sum c.zones (λ u. on (not (eqb u z)) (least c.seasons (λ q. tl (read «data».now) y u z q)))) × (result ≤ most_into) }
+pub fn lowest_limits_into(tables: &Tables, y: usize, z: usize) -> u64
+    requires { (y < tables.now.counts.years) × (z < tables.now.counts.zones) }
+    ensures { (result ≡ sum tables.now.counts.zones (λ u. on (not (eqb u z)) (least tables.now.counts.seasons (λ q. tl (data_of tables.now) y u z q)))) × (result ≤ most_into) }
 {
     let mut total = 0;
-    for u in 0..c.zones {
-        total = total + where_other(u, z, lowest_limit(data, tables_at, c, y, u, z));
+    for u in 0..tables.counts.zones {
+        total = total + where_other(u, z, lowest_limit(tables, y, u, z));
     }
     total
 }
 
 // The lowest of TL[u,z] over the seasons, of which there is at least one.
-fn lowest_limit(data: &[u32], tables_at: &Starts, c: Counts, y: usize, u: usize, z: usize) -> u64
-    requires { TablesAt «data».now tables_at.now c × ((y < c.years) × ((u < c.zones) × (z < c.zones))) }
-    ensures { (result ≡ least c.seasons (λ q. tl (read «data».now) y u z q)) × (result ≤ most32) }
+fn lowest_limit(tables: &Tables, y: usize, u: usize, z: usize) -> u64
+    requires { (y < tables.now.counts.years) × ((u < tables.now.counts.zones) × (z < tables.now.counts.zones)) }
+    ensures { (result ≡ least tables.now.counts.seasons (λ q. tl (data_of tables.now) y u z q)) × (result ≤ most32) }
 {
-    let mut lowest = by_link_season(data, tables_at, c, TL, y, u, z, 0);
-    for q in 1..c.seasons {
-        lowest = lower(lowest, by_link_season(data, tables_at, c, TL, y, u, z, q));
+    let mut lowest = tables.by_link_season(TL, y, u, z, 0);
+    for q in 1..tables.counts.seasons {
+        lowest = lower(lowest, tables.by_link_season(TL, y, u, z, q));
     }
     lowest
 }

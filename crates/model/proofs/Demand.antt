@@ -1,4 +1,5 @@
 -- Demand 3, and the gap with nothing cut off: an accepted certificate is a dual solution, and weak duality does the rest.
+use Rattle.std.specs.Prelude.{Result, Ok, Err}
 use mathlib.Core.Path.{◌≡◌, refl, ap}
 use mathlib.Core.Bool.{Bool, true, false}
 use mathlib.Core.List.{List}
@@ -17,14 +18,14 @@ use Rattle.sums.proofs.Spans.{or_else-fine, first_fine}
 use Rattle.sums.proofs.Indices.{member-in, in-member}
 use Rattle.sums.proofs.Linears.{spread}
 use Rattle.sums.proofs.Duality.{weak}
+use Rattle.model.specs.declared.Certificate.{Certificate}
 use Rattle.model.specs.declared.Refusal.{Refusal}
-use Rattle.model.specs.declared.Certificate.TheVariants.{Issued}
 use Rattle.model.specs.Data.{Data, read}
 use Rattle.model.specs.Columns.{columns, column_boxes, entries}
 use Rattle.model.specs.Families.{equation, equal, rows, row_boxes}
 use Rattle.model.specs.Prices.{price, cost}
 use Rattle.model.specs.Tests.{holds, constant⁺, constant⁻, above, below, row_fault, rows_fault, scale_fault, plan_length_fault, plan_fault, multiplier_fault, m⁺, m⁻, most_multiplier, priced⁺, priced⁻, column_fault, constants⁺, constants⁻, gap, multipliers_fault, columns_fault, dual_fault}
-use Rattle.model.specs.Calls.{certificate, check_fault, certify_fault, cost_of, gap_of, certify}
+use Rattle.model.specs.Calls.{certificate, check_fault, certify_fault, cost_of, gap_of, certify, issued}
 use Rattle.model.specs.Rival.{Rival, Bounds, Binds}
 use Rattle.model.specs.Claims.{Demand3, WholeGap}
 use Rattle.model.proofs.Within.{inside}
@@ -88,6 +89,15 @@ module _ (D : Data) where
         omega (arith, mul-le-mul_left N bound, ap (λ (v : ℕ). M * v) (whole N x h))
 
 -- an issued certificate: every test passed, and the figures are those of the formulas
+-- the cost and the gap in an answer of certify, 0 in a refusal
+abbrev cost_in : Result Certificate Refusal → ℕ
+cost_in (Ok a) = a.cost
+cost_in (Err r) = 0
+
+abbrev gap_in : Result Certificate Refusal → ℕ
+gap_in (Ok a) = a.gap
+gap_in (Err r) = 0
+
 module _ (l : List ℕ) (N : ℕ) (plan : List ℕ) (ms : List ℤ) where
   abbrev D : Data
   D = read l
@@ -121,11 +131,11 @@ module _ (l : List ℕ) (N : ℕ) (plan : List ℕ) (ms : List ℤ) where
     pub cost-is : cost_of l plan ≡ c
     pub gap_is : gap_of l N plan ms ≡ g
 
-  certify-answered : (f : Fault Refusal) → certify_fault l N plan ms ≡ f → (c g : ℕ) → certificate f (cost_of l plan) (gap_of l N plan ms) ≡ Issued c g → Answered c g
-  certify-answered fine e c g h = record { tests = passed-all e; cost-is = cc; gap_is = cc }
+  certify-answered : (f : Fault Refusal) → certify_fault l N plan ms ≡ f → (c g : ℕ) → certificate f (cost_of l plan) (gap_of l N plan ms) ≡ issued c g → Answered c g
+  certify-answered fine e c g h = record { tests = passed-all e; cost-is = ap cost_in h; gap_is = ap gap_in h }
   certify-answered (fault r) e c g h = let z : ◌≡◌ {A = ℕ} 0 1 = cc in absurd (omega arith)
 
-  pub answered : {c g : ℕ} → certify l N plan ms ≡ Issued c g → Answered c g
+  pub answered : {c g : ℕ} → certify l N plan ms ≡ issued c g → Answered c g
   unfolding certify
   answered {c} {g} h = certify-answered (certify_fault l N plan ms) refl c g h
 

@@ -9,10 +9,9 @@ use lib.Dec.{ltb, le→leb}
 use lib.IntN.{ℤ, pos, negsuc, neg_ℤ, ◌-ℤ◌, ◌*ℤ◌}
 use lib.Signed.{◌≤ℤ◌, le_z_yes}
 use borrow.Author.Tests.{ltb-false}
-use Rattle.model.specs.declared.Certificate.TheVariants.{Issued}
 use Rattle.model.specs.Data.{read}
 use Rattle.model.specs.Columns.{entries}
-use Rattle.model.specs.Calls.{certify, cost_of}
+use Rattle.model.specs.Calls.{certify, cost_of, issued}
 use Rattle.model.specs.Rival.{Bounds, Binds, RivalPlan}
 use Rattle.model.specs.Claims.{ListedRivals, NoneCheaper}
 use Rattle.model.proofs.Demand.{demand3}
@@ -34,7 +33,7 @@ difference M c (suc g) k h = by_sign (ltb c (suc g)) refl
         le_z_yes (le→leb (M * (c - suc g)) k (omega (arith, ap (λ (v : ℕ). M * v) whole, mul-add M (c - suc g) (suc g))))
 
 -- what demand 3 says of a rival plan as a list
-bounded-list : (l : List ℕ) (N : ℕ) (plan : List ℕ) (ms : List ℤ) (c g : ℕ) → certify l N plan ms ≡ Issued c g
+bounded-list : (l : List ℕ) (N : ℕ) (plan : List ℕ) (ms : List ℤ) (c g : ℕ) → certify l N plan ms ≡ issued c g
     → (M : ℕ) → 1 ≤ M → (rival : List ℕ) → RivalPlan l M rival → M * c ≤ N * cost_of l rival + M * g
 unfolding cost_of
 bounded-list l N plan ms c g e M h rival r =

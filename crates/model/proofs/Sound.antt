@@ -1,4 +1,5 @@
 -- What passed tests of the data say of its entries.
+use Rattle.std.specs.Prelude.{Err}
 use mathlib.Core.Path.{◌≡◌, refl, sym}
 use mathlib.Core.Bool.{Bool, true, false, ◌&&◌}
 use mathlib.Core.Logic.{⊎_elim}
@@ -19,7 +20,6 @@ use Rattle.model.specs.declared.Refusal.TheVariants.{Entry}
 use Rattle.model.specs.Data.{Data, Range, within, tables, table_boxes, read, place_of, most_counts, all, ◌to◌, Z, F}
 use Rattle.model.specs.Families.{equation}
 use Rattle.model.specs.Tests.{unless, entry_fault, entries_fault, data_fault, counts_fault, count_fault, constant⁺, constant⁻}
-use Rattle.model.specs.declared.Answer.TheVariants.{Refused}
 use Rattle.model.specs.Calls.{answer, board_after, post_fault, post, posted}
 use Rattle.model.specs.Standing.{Placed}
 use Rattle.model.specs.Claims.{OneConstant, SoundPlaces, KeptBoard}
@@ -102,7 +102,7 @@ unfolding constant⁺ constant⁻
 one-constant D r = record { one = one_side (equation D r).plus (equation D r).minus; net = omega arith }
 
 -- post refuses only where a test gave a refusal
-kept : (f : Fault Refusal) (c : ℕ) (old new : List ℕ) (r : Refusal) → answer f c ≡ Refused r → board_after f old new ≡ old
+kept : (f : Fault Refusal) (c : ℕ) (old new : List ℕ) (r : Refusal) → answer f c ≡ Err r → board_after f old new ≡ old
 kept fine c old new r e = let z : ◌≡◌ {A = ℕ} 0 1 = cc in absurd (omega arith)
 kept (fault s) c old new r e = refl
 

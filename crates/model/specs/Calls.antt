@@ -1,13 +1,10 @@
 -- What check, certify and post answer on every input, and what the board then holds.
-use Rattle.std.specs.Prelude.{Bool, true, false, List, [], ◌∷◌, ◌++◌, ℕ, ◌+◌, ◌*◌, ℤ, length, take, drop}
+use Rattle.std.specs.Prelude.{Bool, true, false, List, [], ◌∷◌, ◌++◌, ℕ, ◌+◌, ◌*◌, ℤ, length, take, drop, Result, Ok, Err}
 use Rattle.sums.specs.Span.{Fault, fine, fault, or_else}
 use Rattle.model.specs.declared.Refusal.{Refusal}
 use Rattle.model.specs.declared.Refusal.TheVariants.{Shape, DataLength, Entry, Scale, PlanLength, RowOffScale, Broken, CostOffScale, MultiplierCount, Multiplier, ColumnOffScale, Underpriced, GapOffScale, Board, Frame, Storage}
 use Rattle.model.specs.declared.Code.{Code}
-use Rattle.model.specs.declared.Answer.{Answer}
-use Rattle.model.specs.declared.Answer.TheVariants.{Accepted, Refused}
 use Rattle.model.specs.declared.Certificate.{Certificate}
-use Rattle.model.specs.declared.Certificate.TheVariants.{Issued, Withheld}
 use Rattle.model.specs.Data.{Data, read, G, S}
 use Rattle.model.specs.Columns.{entries, column_number, gen}
 use Rattle.model.specs.Prices.{cost}
@@ -36,22 +33,31 @@ code_of (Frame n) = code 15 n 0
 code_of (Storage g) = code 16 g 0
 
 -- an answer of check or post: 0 and the cost, or the refusal
-unfoldable pub answer_code : Answer → Code
-answer_code (Accepted c) = code 0 c 0
-answer_code (Refused r) = code_of r
+unfoldable pub answer_code : Result ℕ Refusal → Code
+answer_code (Ok c) = code 0 c 0
+answer_code (Err r) = code_of r
 
 -- an answer of certify: 0, the cost and the gap, or the refusal
-unfoldable pub certificate_code : Certificate → Code
-certificate_code (Issued c g) = code 0 c g
-certificate_code (Withheld r) = code_of r
+unfoldable pub certificate_code : Result Certificate Refusal → Code
+certificate_code (Ok a) = code 0 a.cost a.gap
+certificate_code (Err r) = code_of r
 
-abbrev pub answer : Fault Refusal → ℕ → Answer
-answer fine c = Accepted c
-answer (fault r) c = Refused r
+-- what a test answers, in the code
+abbrev pub outcome : Fault Refusal → Result (Unit {0}) Refusal
+outcome fine = Ok tt
+outcome (fault r) = Err r
 
-abbrev pub certificate : Fault Refusal → ℕ → ℕ → Certificate
-certificate fine c g = Issued c g
-certificate (fault r) c g = Withheld r
+abbrev pub answer : Fault Refusal → ℕ → Result ℕ Refusal
+answer fine c = Ok c
+answer (fault r) c = Err r
+
+-- a certificate of a cost and a gap
+abbrev pub issued : ℕ → ℕ → Result Certificate Refusal
+issued c g = Ok (record { cost = c; gap = g })
+
+abbrev pub certificate : Fault Refusal → ℕ → ℕ → Result Certificate Refusal
+certificate fine c g = issued c g
+certificate (fault r) c g = Err r
 
 -- check: data, N, plan; the cost
 unfoldable pub check_fault : List ℕ → ℕ → List ℕ → Fault Refusal
@@ -60,7 +66,7 @@ check_fault l N plan = or_else (data_fault l) (plan_fault (read l) N plan)
 unfoldable pub cost_of : List ℕ → List ℕ → ℕ
 cost_of l plan = cost (read l) (entries (read l) plan)
 
-unfoldable pub check : List ℕ → ℕ → List ℕ → Answer
+unfoldable pub check : List ℕ → ℕ → List ℕ → Result ℕ Refusal
 check l N plan = answer (check_fault l N plan) (cost_of l plan)
 
 -- certify: data, N, plan, multipliers; cost and gap
@@ -70,14 +76,14 @@ certify_fault l N plan ms = or_else (check_fault l N plan) (dual_fault (read l) 
 unfoldable pub gap_of : List ℕ → ℕ → List ℕ → List ℤ → ℕ
 gap_of l N plan ms = gap (read l) ms N (cost_of l plan)
 
-unfoldable pub certify : List ℕ → ℕ → List ℕ → List ℤ → Certificate
+unfoldable pub certify : List ℕ → ℕ → List ℕ → List ℤ → Result Certificate Refusal
 certify l N plan ms = certificate (certify_fault l N plan ms) (cost_of l plan) (gap_of l N plan ms)
 
 -- post: data, N, plan, year index, board, start; the cost, and the year's part of the gen table on the board
 unfoldable pub post_fault : List ℕ → ℕ → List ℕ → ℕ → List ℕ → ℕ → Fault Refusal
 post_fault l N plan y board start = or_else (check_fault l N plan) (board_fault (read l) y (length board) start)
 
-unfoldable pub post : List ℕ → ℕ → List ℕ → ℕ → List ℕ → ℕ → Answer
+unfoldable pub post : List ℕ → ℕ → List ℕ → ℕ → List ℕ → ℕ → Result ℕ Refusal
 post l N plan y board start = answer (post_fault l N plan y board start) (cost_of l plan)
 
 -- G·S numbers

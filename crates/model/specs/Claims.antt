@@ -1,6 +1,6 @@
 -- What is proved of the definitions, as statements; the proofs are in proofs/.
 -- Beside these: Printed.antt (each family reads as documents 01 and 02 print it) and Standing.antt (the rows of each kind of column).
-use Rattle.std.specs.Prelude.{◌≡◌, Bool, false, true, ◌&&◌, List, map, ℕ, ◌+◌, ◌*◌, ◌-◌, ◌≤◌, ◌<◌, ℤ, pos, ◌-ℤ◌, ◌*ℤ◌, ◌≤ℤ◌}
+use Rattle.std.specs.Prelude.{◌≡◌, Bool, false, true, ◌&&◌, List, map, ℕ, ◌+◌, ◌*◌, ◌-◌, ◌≤◌, ◌<◌, ℤ, pos, ◌-ℤ◌, ◌*ℤ◌, ◌≤ℤ◌, Ok, Err}
 use Rattle.sums.specs.Sum.{sum}
 use Rattle.sums.specs.Span.{listing, up_from, total, fine, fault}
 use Rattle.sums.specs.declared.Box.{Box}
@@ -9,8 +9,6 @@ use Rattle.sums.specs.Linear.{coefficient, value}
 use Rattle.sums.specs.Duality.{Holds}
 use Rattle.model.specs.declared.Refusal.{Refusal}
 use Rattle.model.specs.declared.Refusal.TheVariants.{Storage}
-use Rattle.model.specs.declared.Answer.TheVariants.{Accepted, Refused}
-use Rattle.model.specs.declared.Certificate.TheVariants.{Issued}
 use Rattle.model.specs.Counts.{Counts}
 use Rattle.model.specs.Data.{Data, read, table_boxes, demand, peak, tl, is_battery, is_vre, efficiency, line_limit, line_annuity, lowest_limit, hour, Z, G, Q, Y, S}
 use Rattle.model.specs.Columns.{column_boxes, column_number, entries, cap, build, retire, gen, reserve, trans, unmet, surplus, spinshort, firmshort, charge, level, built_lines, total_lines}
@@ -18,7 +16,7 @@ use Rattle.model.specs.Families.{Equation, others_sum, rows, row_boxes, row, equ
 use Rattle.model.specs.Earlier.{earlier_firm, earlier_equation}
 use Rattle.model.specs.Tests.{head_fault, counts_fault, length_fault, entries_fault, data_fault, above, below, constant⁺, constant⁻, m⁺, m⁻, constants⁺, constants⁻}
 use Rattle.model.specs.Prices.{year_weight, price, cost}
-use Rattle.model.specs.Calls.{check, certify, cost_of, post, posted}
+use Rattle.model.specs.Calls.{check, certify, cost_of, post, posted, issued}
 use Rattle.model.specs.Rival.{Rival, Bounds, Binds, RivalPlan, Cheaper}
 use Rattle.model.specs.Station.{Case, run, cases, first_case, station, plan_of, multipliers_of}
 use Rattle.model.specs.Standing.{Placed}
@@ -29,7 +27,7 @@ TenCases = map run cases ≡ map (λ (k : Case). k.outcome) cases
 
 -- the first of them as the answer itself
 abbrev pub FirstAnswer : Type 0
-FirstAnswer = certify station first_case.scale (plan_of first_case) (multipliers_of first_case) ≡ Issued 40000000000 0
+FirstAnswer = certify station first_case.scale (plan_of first_case) (multipliers_of first_case) ≡ issued 40000000000 0
 
 -- demand 3: whatever certify answers, where it issues a certificate this binds every rival plan at every scale
 abbrev pub Demand3 : Type 0
@@ -38,18 +36,18 @@ Demand3 = (l : List ℕ) (N : ℕ) (plan : List ℕ) (ms : List ℤ) → Binds l
 -- the same in document 01's words: N·cost(rival) ≥ M·(cost − gap), where answered cost less answered gap may be below zero
 abbrev pub ListedRivals : Type 0
 ListedRivals =
-    (l : List ℕ) (N : ℕ) (plan : List ℕ) (ms : List ℤ) (c g : ℕ) → certify l N plan ms ≡ Issued c g
+    (l : List ℕ) (N : ℕ) (plan : List ℕ) (ms : List ℤ) (c g : ℕ) → certify l N plan ms ≡ issued c g
     → (M : ℕ) → 1 ≤ M → (rival : List ℕ) → RivalPlan l M rival
     → (pos M *ℤ (pos c -ℤ pos g)) ≤ℤ (pos N *ℤ pos (cost_of l rival))
 
 -- a plan that check accepts is a rival plan at its own scale: what is proved of every rival plan holds of it
 abbrev pub AcceptedMeets : Type 0
-AcceptedMeets = (l : List ℕ) (N : ℕ) (plan : List ℕ) (c : ℕ) → check l N plan ≡ Accepted c → Rival (read l) N (entries (read l) plan)
+AcceptedMeets = (l : List ℕ) (N : ℕ) (plan : List ℕ) (c : ℕ) → check l N plan ≡ Ok c → Rival (read l) N (entries (read l) plan)
 
 -- where the answered gap is 0 no rival plan is cheaper
 abbrev pub NoneCheaper : Type 0
 NoneCheaper =
-    (l : List ℕ) (N : ℕ) (plan : List ℕ) (ms : List ℤ) (c : ℕ) → certify l N plan ms ≡ Issued c 0
+    (l : List ℕ) (N : ℕ) (plan : List ℕ) (ms : List ℤ) (c : ℕ) → certify l N plan ms ≡ issued c 0
     → (M : ℕ) → 1 ≤ M → (rival : List ℕ) → RivalPlan l M rival → Cheaper l N c M rival → ⊥
 
 -- M = 1 is among the scales that `Bounds` speaks of
@@ -64,7 +62,7 @@ pub record Sharp (l : List ℕ) (N : ℕ) (plan : List ℕ) (c g : ℕ) : Type 0
 
 -- so it is wherever the answered gap is 0
 abbrev pub SharpBound : Type 0
-SharpBound = (l : List ℕ) (N : ℕ) (plan : List ℕ) (ms : List ℤ) (c : ℕ) → certify l N plan ms ≡ Issued c 0 → Sharp l N plan c 0
+SharpBound = (l : List ℕ) (N : ℕ) (plan : List ℕ) (ms : List ℤ) (c : ℕ) → certify l N plan ms ≡ issued c 0 → Sharp l N plan c 0
 
 -- and such an answer is given: at the station's first case, with N = 1
 pub record SharpStation : Type 0 where
@@ -74,14 +72,14 @@ pub record SharpStation : Type 0 where
 -- the answered gap is cost + N·Σ m·k with nothing cut off
 abbrev pub WholeGap : Type 0
 WholeGap =
-    (l : List ℕ) (N : ℕ) (plan : List ℕ) (ms : List ℤ) (c g : ℕ) → certify l N plan ms ≡ Issued c g
+    (l : List ℕ) (N : ℕ) (plan : List ℕ) (ms : List ℤ) (c g : ℕ) → certify l N plan ms ≡ issued c g
     → g + N * constants⁻ (read l) ms ≡ c + N * constants⁺ (read l) ms
 
 -- on a refusal post leaves the board as it was
 abbrev pub KeptBoard : Type 0
 KeptBoard =
     (l : List ℕ) (N : ℕ) (plan : List ℕ) (y : ℕ) (board : List ℕ) (start : ℕ) (r : Refusal)
-    → post l N plan y board start ≡ Refused r → posted l N plan y board start ≡ board
+    → post l N plan y board start ≡ Err r → posted l N plan y board start ≡ board
 
 -- no column stands in one row with both signs, so the two sums are those of one coefficient per column
 abbrev pub OneSign : Type 0
@@ -166,7 +164,7 @@ NoBattery =
 -- and in every plan that check accepts
 abbrev pub NoBatteryAccepted : Type 0
 NoBatteryAccepted =
-    (l : List ℕ) (N : ℕ) (plan : List ℕ) (c : ℕ) → check l N plan ≡ Accepted c
+    (l : List ℕ) (N : ℕ) (plan : List ℕ) (c : ℕ) → check l N plan ≡ Ok c
     → (y g s : ℕ) → y < Y (read l) → g < G (read l) → s < S (read l) → is_battery (read l) g ≡ false → Uncharged (entries (read l) plan) y g s
 
 -- a battery starts each day empty: what it holds after a day's first hour is efficiency ‰ of what that hour charged, less what it gave
@@ -274,7 +272,7 @@ earlier_constants⁻ D ms =
 -- old multipliers tried anew: where certify accepts them with a plan, the gap is at most what cost + N·Σ m·k came to for the same plan with the earlier (21)
 abbrev pub GapNoLarger : Type 0
 GapNoLarger =
-    (l : List ℕ) (N : ℕ) (plan : List ℕ) (ms : List ℤ) (c g : ℕ) → certify l N plan ms ≡ Issued c g
+    (l : List ℕ) (N : ℕ) (plan : List ℕ) (ms : List ℤ) (c g : ℕ) → certify l N plan ms ≡ issued c g
     → (earlier : ℕ) → earlier + N * earlier_constants⁻ (read l) ms ≡ c + N * earlier_constants⁺ (read l) ms → g ≤ earlier
 
 -- the peak is the largest Demand of the year and zone: none is above it, and it is one of them

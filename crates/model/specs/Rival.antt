@@ -1,9 +1,9 @@
 -- A rival plan in Mths, and what a certificate says of it (demand 3).
-use Rattle.std.specs.Prelude.{◌≡◌, List, ℕ, ◌+◌, ◌*◌, ◌≤◌, ◌<◌, ℤ, length}
+use Rattle.std.specs.Prelude.{◌≡◌, List, ℕ, ◌+◌, ◌*◌, ◌≤◌, ◌<◌, ℤ, length, Ok, Err, Result}
 use Rattle.sums.specs.Index.{Index, Member, count}
 use Rattle.sums.specs.Duality.{Holds}
 use Rattle.model.specs.declared.Certificate.{Certificate}
-use Rattle.model.specs.declared.Certificate.TheVariants.{Issued, Withheld}
+use Rattle.model.specs.declared.Refusal.{Refusal}
 use Rattle.model.specs.Data.{Data, read}
 use Rattle.model.specs.Columns.{column_boxes, entries}
 use Rattle.model.specs.Families.{row_boxes, equal}
@@ -20,9 +20,9 @@ abbrev pub Bounds : Data → ℕ → ℕ → ℕ → Type 0
 Bounds D N c g = (M : ℕ) → 1 ≤ M → (x : Index → ℕ) → Rival D M x → M * c ≤ N * cost D x + M * g
 
 -- what certify's answer promises: an issued certificate binds every rival plan over the same data
-abbrev pub Binds : List ℕ → ℕ → Certificate → Type 0
-Binds l N (Issued c g) = Bounds (read l) N c g
-Binds l N (Withheld r) = Unit {0}
+abbrev pub Binds : List ℕ → ℕ → Result Certificate Refusal → Type 0
+Binds l N (Ok a) = Bounds (read l) N a.cost a.gap
+Binds l N (Err r) = Unit {0}
 
 -- a rival plan as a list: a number in Mths for each column, and it meets all the equations
 pub record RivalPlan (l : List ℕ) (M : ℕ) (rival : List ℕ) : Type 0 where

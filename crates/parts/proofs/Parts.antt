@@ -9,7 +9,7 @@ use lib.Seq.{get_or-take, get_or-drop, length-take-le}
 use Rattle.model.specs.declared.Counts.{Counts}
 use Rattle.model.specs.Counts.{slices_of, [ygs]}
 use Rattle.model.specs.Columns.{column_sets, column_kind_count}
-use Rattle.tables.specs.Layout.{Counted, ColumnsAt, PlanEntryAt, plan_entry}
+use Rattle.tables.specs.Layout.{Counted, ColumnsAt, plan_entry, EntryAt}
 use Rattle.tables.proofs.Laws.{column-below, column-is}
 use Rattle.parts.specs.Years.{YearPart}
 use Rattle.parts.proofs.Laws.{part-below, few-places}
@@ -19,9 +19,8 @@ places-are c e = ap (λ (n : ℕ). c.plants * n) e
 
 module _ {plan columns-at : List ℕ} {c : Counts} {y places : ℕ} (few : Counted c) (p : ColumnsAt plan columns-at c) (hy : y < c.years) (q : places ≡ c.plants * slices_of c)
     (t : ℕ) (ht : t < column_kind_count) (e : get_or column_sets t 0 ≡ [ygs]) where
-  column : (g s : ℕ) → g < c.plants → s < slices_of c → PlanEntryAt plan columns-at c t [ygs] y g 0 s
-  column g s hg hs =
-      record { columns_at = p; counted = few; table = ht; set = e; inside = record { year = hy; «first» = hg; second = omega arith; slice = hs } }
+  column : (g s : ℕ) → g < c.plants → s < slices_of c → EntryAt column_sets c t [ygs] y g 0 s
+  column g s hg hs = record { table = ht; set = e; inside = record { year = hy; «first» = hg; second = omega arith; slice = hs } }
 
   -- its last entry is in the plan, so its end is
   part_end : get_or columns-at t 0 + (y + 1) * places ≤ length plan
@@ -32,7 +31,7 @@ module _ {plan columns-at : List ℕ} {c : Counts} {y places : ℕ} (few : Count
       let s = slices_of c - 1 in
       let hs : s < slices_of c = omega arith in
       let last : suc g ≡ c.plants = omega arith in
-      rw q (omega (arith, column-below (column g s hg hs), suc-mul g (slices_of c), ap (λ (v : ℕ). v * slices_of c) last))
+      rw q (omega (arith, column-below p (column g s hg hs), suc-mul g (slices_of c), ap (λ (v : ℕ). v * slices_of c) last))
 
   pub part-asked : (get_or columns-at t 0 + (y + 1) * places ≤ length plan) × ((places ≤ 12288) × (y < 10))
   part-asked = (part_end, (omega (arith, few-places few), omega (arith, few.few_years)))
@@ -44,5 +43,5 @@ module _ {plan columns-at : List ℕ} {c : Counts} {y places : ℕ} (few : Count
         long = ap length h ∙ length-take-le places (drop from plan) (omega (arith, length-drop from plan, part_end)) ∙ q;
         is = λ g s hg hs.
             rw (h, get_or-take places (drop from plan) (g * slices_of c + s) 0 (rw q (part-below few g s hg hs)), get_or-drop)
-            (ap (λ (n : ℕ). get_or plan n 0) (rw q (omega arith)) ∙ column-is (column g s hg hs));
+            (ap (λ (n : ℕ). get_or plan n 0) (rw q (omega arith)) ∙ column-is p (column g s hg hs));
       }

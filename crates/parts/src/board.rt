@@ -1,5 +1,5 @@
 // The board: the year's outputs in their places, the rest as it was.
-ghost use Rattle.std.specs.Prelude.{◌≡◌, ◌++◌, ◌+◌, ◌≤◌, length, take, drop};
+ghost use Rattle.std.specs.Prelude.{◌≡◌, ◌+◌, ◌≤◌, length};
 ghost use Rattle.model.specs.Calls.{replaced};
 
 // The writer: the lent part of the board takes the outputs.

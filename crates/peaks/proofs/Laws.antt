@@ -12,7 +12,7 @@ use Rattle.sums.proofs.Numbering.{below-product}
 use Rattle.model.specs.declared.Counts.{Counts}
 use Rattle.model.specs.Counts.{slices_of, [yzs]}
 use Rattle.model.specs.Data.{read, peak}
-use Rattle.tables.specs.Layout.{TablesAt, EntryAt}
+use Rattle.tables.specs.Layout.{TablesAt, EntryAt, table_sets}
 use Rattle.tables.proofs.Laws.{entry-below, entry-is}
 
 -- The peak, by halves
@@ -37,15 +37,15 @@ module _ {l tables-at : List ℕ} {c : Counts} {y z : ℕ} (n : TablesAt l table
   abbrev demand_from : ℕ
   demand_from = get_or tables-at 25 0 + (y * c.zones + z) * slices_of c
 
-  demand-read : (s : ℕ) → s < slices_of c → EntryAt l tables-at c 25 [yzs] y z 0 s
+  demand-read : (s : ℕ) → s < slices_of c → EntryAt table_sets c 25 [yzs] y z 0 s
   demand-read s h =
-      record { tables_at = n; table = omega arith; set = refl; inside = record { year = hy; «first» = hz; second = omega arith; slice = h } }
+      record { table = omega arith; set = refl; inside = record { year = hy; «first» = hz; second = omega arith; slice = h } }
 
   demand-below : demand_from + slices_of c ≤ length l
   demand-below =
       let some : 0 < slices_of c = mul-pos (mul-pos n.counted.some_seasons n.counted.some_days) n.counted.some_hours in
       let last : slices_of c - 1 < slices_of c = omega arith in
-      omega (arith, entry-below (demand-read (slices_of c - 1) last))
+      omega (arith, entry-below n (demand-read (slices_of c - 1) last))
 
   demand-peak : highest (take (slices_of c) (drop demand_from l)) ≡ peak (read l) y z
   demand-peak =
@@ -53,7 +53,7 @@ module _ {l tables-at : List ℕ} {c : Counts} {y z : ℕ} (n : TablesAt l table
       rw (whole, n.counts)
       (largest-same (slices_of c)
       (λ s h. get_or-take (slices_of c) (drop demand_from l) s 0 h ∙ get_or-drop demand_from l s 0
-      ∙ ap (λ (k : ℕ). get_or l k 0) (omega arith) ∙ entry-is (demand-read s h)))
+      ∙ ap (λ (k : ℕ). get_or l k 0) (omega arith) ∙ entry-is n (demand-read s h)))
 
   -- the same with the number of slices in a local, as the code has it
   module _ {m : ℕ} (e : m ≡ slices_of c) where

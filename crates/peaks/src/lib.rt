@@ -3,14 +3,12 @@
 
 ghost use Rattle.std.specs.Prelude.{◌≡◌, ◌≤◌, ◌<◌, max, length, get_or};
 ghost use Rattle.sums.specs.Sum.{largest};
-ghost use Rattle.model.specs.Data.{read, peak, most32};
-ghost use Rattle.tables.specs.Layout.{TablesAt};
+ghost use Rattle.model.specs.Data.{peak, most32};
+ghost use Rattle.tables.specs.Lists.{data_of};
 
-use model::Counts;
-use tables::entries::wide;
+use tables::lists::Tables;
 use tables::names::DEMAND;
 use tables::sets::slices_of;
-use tables::starts::Starts;
 
 // The peak of a span is the larger of its halves' peaks, and a single slice's is its Demand.
 fn peak_of(demand: &[u32]) -> u32
@@ -25,22 +23,16 @@ fn peak_of(demand: &[u32]) -> u32
     let half = demand.len() / 2;
     let earlier = peak_of(&demand[0..half]);
     let later = peak_of(&demand[half..]);
-    larger(earlier, later)
-}
-
-fn larger(a: u32, b: u32) -> u32
-    ensures { result ≡ max a b }
-{
-    if a < b { b } else { a }
+    earlier.max(later)
 }
 
 // The largest Demand[y,z,·].
-pub fn zone_peak(data: &[u32], tables_at: &Starts, c: Counts, y: usize, z: usize) -> u64
-    requires { TablesAt «data».now tables_at.now c × ((y < c.years) × (z < c.zones)) }
-    ensures { (result ≡ peak (read «data».now) y z) × (result ≤ most32) }
+pub fn zone_peak(tables: &Tables, y: usize, z: usize) -> u64
+    requires { (y < tables.now.counts.years) × (z < tables.now.counts.zones) }
+    ensures { (result ≡ peak (data_of tables.now) y z) × (result ≤ most32) }
 {
-    let n = slices_of(c);
-    let from = tables_at[DEMAND] + (y * c.zones + z) * n;
+    let n = slices_of(tables.counts);
+    let from = tables.starts[DEMAND] + (y * tables.counts.zones + z) * n;
     let to = from + n;
-    wide(peak_of(&data[from..to]))
+    u64::from(peak_of(&tables.list[from..to]))
 }

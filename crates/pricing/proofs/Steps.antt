@@ -1,4 +1,5 @@
 -- The walk over all columns: the index sets of the kinds of column. Assumes nothing.
+use Rattle.model.specs.Calls.{outcome}
 use mathlib.Core.Path.{◌≡◌, sym, ap, ◌∙◌}
 use mathlib.Core.List.{List}
 use Prim.Native.Nat.{ℕ, ◌*◌, ◌≤◌, ◌<◌}
@@ -13,7 +14,7 @@ use Rattle.model.specs.Counts.{sets}
 use Rattle.model.specs.Data.{Data}
 use Rattle.model.specs.Columns.{column_sets, column_boxes, column_kind_count}
 use Rattle.model.specs.Tests.{column_fault, columns_fault}
-use Rattle.tables.specs.Layout.{Counted, outcome}
+use Rattle.tables.specs.Layout.{Counted}
 use Rattle.tables.proofs.Laws.{box-at}
 use Rattle.tables.proofs.Members as members
 

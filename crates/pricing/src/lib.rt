@@ -4,61 +4,44 @@
 ghost use Rattle.std.specs.Prelude.{◌≡◌};
 ghost use Rattle.capped.specs.Cap.{cap};
 ghost use Rattle.sums.specs.Index.{index_of, number, Member};
-ghost use Rattle.model.specs.Data.{read};
 ghost use Rattle.model.specs.Columns.{column_boxes};
 ghost use Rattle.model.specs.Tests.{column_fault, columns_fault};
-ghost use Rattle.tables.specs.Layout.{outcome};
-ghost use Rattle.column_prices.specs.Factors.{unit_price};
-ghost use Rattle.column_terms.specs.Pairs.{Ready};
+ghost use Rattle.model.specs.Calls.{outcome};
 
+ghost use Rattle.column_prices.specs.Factors.{unit_price};
+ghost use Rattle.tables.specs.Lists.{data_of};
+
+use duals::Pricing;
 use capped::Sum;
 use column_prices::{hours_of, unit_price};
 use columns::column_sums;
-use duals::RowStarts;
-use model::{COLUMN_KIND_COUNT, Counts, Outcome};
+use model::{COLUMN_KIND_COUNT, Refusal};
 use sums::Place;
-use tables::starts::{Starts, column_box};
+use tables::starts::column_box;
 use verdicts::columns::verdict;
 
 // The test of column p, whose number is `column`; `unit` is the price of its unit, or of a unit's hour.
-fn test_column(
-    data: &[u32],
-    ms: &[i64],
-    tables_at: &Starts,
-    rows_at: &RowStarts,
-    c: Counts,
-    p: Place,
-    unit: Sum,
-    column: usize,
-) -> Outcome
-    requires { Ready «data».now tables_at.now ms.now rows_at.now c × (Member (column_boxes c) (index_of p)
-        × ((unit ≡ cap (unit_price (read «data».now) p.kind p.year p.first p.second)) × (column ≡ number (column_boxes c) (index_of p)))) }
-    ensures { result ≡ outcome (column_fault (read «data».now) ms.now (index_of p)) }
+fn test_column(pricing: &Pricing, p: Place, unit: Sum, column: usize) -> Result<(), Refusal>
+    requires { (Member (column_boxes pricing.now.multipliers.counts) (index_of p)) × ((unit ≡ cap (unit_price (data_of pricing.now.tested.tables.now) p.kind p.year p.first p.second)) × (column ≡ number (column_boxes pricing.now.multipliers.counts) (index_of p))) }
+    ensures { result ≡ outcome (column_fault (data_of pricing.now.tested.tables.now) pricing.now.multipliers.list.now (index_of p)) }
 {
-    let sums = column_sums(data, ms, tables_at, rows_at, c, p);
-    let price = capped::scale(unit, hours_of(data, tables_at, c, p.kind, p.slice));
+    let sums = column_sums(pricing, p);
+    let price = capped::scale(unit, hours_of(pricing.tested.tables, p.kind, p.slice));
     verdict(sums, price, column)
 }
 
 // Refusals 11 and 12. The price of a unit is found before the slices, since it does not depend on them.
-pub fn test_columns(
-    data: &[u32],
-    ms: &[i64],
-    tables_at: &Starts,
-    rows_at: &RowStarts,
-    c: Counts,
-) -> Outcome
-    requires { Ready «data».now tables_at.now ms.now rows_at.now c }
-    ensures { result ≡ outcome (columns_fault (read «data».now) ms.now) }
+pub fn test_columns(pricing: &Pricing) -> Result<(), Refusal>
+    ensures { result ≡ outcome (columns_fault (data_of pricing.now.tested.tables.now) pricing.now.multipliers.list.now) }
 {
-    let mut answer = Outcome::Fine;
+    let mut answer = Ok(());
     let mut column = 0;
     'walk: for k in 0..COLUMN_KIND_COUNT {
-        let b = column_box(c, k);
+        let b = column_box(pricing.multipliers.counts, k);
         for y in 0..b.years {
             for i in 0..b.firsts {
                 for j in 0..b.seconds {
-                    let unit = unit_price(data, tables_at, c, k, y, i, j);
+                    let unit = unit_price(pricing.tested.tables, k, y, i, j);
                     for s in 0..b.slices {
                         let p = Place {
                             kind: k,
@@ -67,10 +50,10 @@ pub fn test_columns(
                             second: j,
                             slice: s,
                         };
-                        match test_column(data, ms, tables_at, rows_at, c, p, unit, column) {
-                            Outcome::Fine => column += 1,
-                            Outcome::Fails(r) => {
-                                answer = Outcome::Fails(r);
+                        match test_column(pricing, p, unit, column) {
+                            Ok(()) => column += 1,
+                            Err(r) => {
+                                answer = Err(r);
                                 break 'walk;
                             }
                         }

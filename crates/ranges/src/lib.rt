@@ -4,16 +4,16 @@
 ghost use Rattle.std.specs.Prelude.{◌≡◌, ℕ, ◌+◌, ◌-◌, ◌≤◌, ◌<◌, get_or};
 ghost use Rattle.sums.specs.Index.{box_of};
 ghost use Rattle.model.specs.Counts.{sets};
-ghost use Rattle.model.specs.Data.{within, either, ◌to◌, most32, read, table_count};
-ghost use Rattle.tables.specs.Layout.{TablesAt, table_sets};
+ghost use Rattle.model.specs.Data.{within, either, ◌to◌, most32, table_count};
+ghost use Rattle.tables.specs.Layout.{table_sets};
+ghost use Rattle.tables.specs.Lists.{data_of};
 ghost use Rattle.ranges.specs.Ranges.{ranged, fixed, by_index, range_of};
 
-use model::{Counts, TABLE_COUNT};
+use model::TABLE_COUNT;
+use tables::lists::Tables;
 use tables::names::{
     FUEL, GEN_CAP, LINE_ANNUITY, LINE_LIMIT, MAX_NEW_CAP, MW_PER_LINE, TL, YEAR, ZONE,
 };
-use tables::plants::is_existing;
-use tables::starts::Starts;
 
 #[derive(Clone, Copy)]
 pub struct Range {
@@ -24,10 +24,7 @@ pub struct Range {
 pub fn in_range(r: Range, x: u32) -> bool
     ensures { result ≡ within (ranged r) x }
 {
-    if x < r.least {
-        return false;
-    }
-    x <= r.most
+    r.least <= x && x <= r.most
 }
 
 const ANY: Range = Range {
@@ -143,20 +140,7 @@ fn below(n: usize) -> Range
 fn any_if(b: bool) -> Range
     ensures { ranged result ≡ either b (0 to most32) (0 to 0) }
 {
-    if b {
-        return ANY;
-    }
-    ZERO
-}
-
-// 0 where `b` is true, else any number.
-fn none_if(b: bool) -> Range
-    ensures { ranged result ≡ either b (0 to 0) (0 to most32) }
-{
-    if b {
-        return ZERO;
-    }
-    ANY
+    if b { ANY } else { ZERO }
 }
 
 // An existing plant retires in the second year or later, at the latest after the last; a candidate comes in one of the years.
@@ -177,20 +161,21 @@ fn plant_year(b: bool, years: usize) -> Range
 }
 
 // The range of table `t` at first index `i` and second index `j`. No range depends on the year or the slice.
-pub fn range_at(data: &[u32], tables_at: &Starts, c: Counts, t: usize, i: usize, j: usize) -> Range
-    requires { TablesAt «data».now tables_at.now c × ((t < table_count) × (i < (box_of (sets c) (get_or table_sets t 0)).firsts)) }
-    ensures { (y s : ℕ) → ranged result ≡ range_of t (read «data».now) y i j s }
+pub fn range_at(tables: &Tables, t: usize, i: usize, j: usize) -> Range
+    requires { (t < table_count) × (i < (box_of (sets tables.now.counts) (get_or table_sets t 0)).firsts) }
+    ensures { (y s : ℕ) → ranged result ≡ range_of t (data_of tables.now) y i j s }
 {
     match t {
-        ZONE => below(c.zones),
-        FUEL => below(c.fuels),
-        GEN_CAP => any_if(is_existing(data, tables_at, c, i)),
-        YEAR => plant_year(is_existing(data, tables_at, c, i), c.years),
-        MAX_NEW_CAP => none_if(is_existing(data, tables_at, c, i)),
-        TL => none_if(i == j),
-        LINE_LIMIT => none_if(i == j),
-        MW_PER_LINE => none_if(i == j),
-        LINE_ANNUITY => none_if(i == j),
+        ZONE => below(tables.counts.zones),
+        FUEL => below(tables.counts.fuels),
+        GEN_CAP => any_if(tables.is_existing(i)),
+        YEAR => plant_year(tables.is_existing(i), tables.counts.years),
+        MAX_NEW_CAP => any_if(!tables.is_existing(i)),
+        // An arm for each, with no `|`: the check joins patterns that are neighbours to one range, and the last arm's proof didn't close (c).
+        TL => any_if(i != j),
+        LINE_LIMIT => any_if(i != j),
+        MW_PER_LINE => any_if(i != j),
+        LINE_ANNUITY => any_if(i != j),
         _ => fixed_range(t),
     }
 }

@@ -10,8 +10,7 @@ use native.Mathlib.Omega.{arith}
 use lib.Dec.{eqb, ltb}
 use lib.ListN.{get_or}
 use borrow.Author.Tests.{eqb-false}
-use Rattle.capped.specs.declared.Sum.{Sum}
-use Rattle.capped.specs.Cap.{cap, plus, plus_if, both}
+use Rattle.capped.specs.Cap.{cap, plus, plus_if, both, Sum}
 use Rattle.capped.proofs.Laws.{plus-cap, both-cap, le-or-lt}
 use Rattle.sums.specs.Sum.{on}
 use Rattle.sums.specs.Index.{index}

@@ -1,7 +1,6 @@
 -- What the row functions work on and answer.
-use Rattle.std.specs.Prelude.{◌≡◌, Bool, true, false, not, List, ℕ, ◌*◌, ◌-◌}
-use Rattle.capped.specs.declared.Sum.{Sum}
-use Rattle.capped.specs.Cap.{cap, plus}
+use Rattle.std.specs.Prelude.{◌≡◌, List, ℕ, ◌*◌, ◌-◌}
+use Rattle.capped.specs.Cap.{cap, plus, Sum}
 use Rattle.sums.specs.Span.{fine}
 use Rattle.sums.specs.Index.{Index, index}
 use Rattle.sums.specs.Linear.{◌·◌, value}
@@ -14,10 +13,12 @@ use Rattle.tables.specs.Layout.{TablesAt, ColumnsAt, plan_entry}
 use Rattle.parts.specs.Years.{YearPart, gen_kind, reserve_kind, charge_kind, level_kind}
 use Rattle.energy.specs.Energies.{Energies}
 use Rattle.constants.specs.declared.Constant.{Constant}
+use Rattle.row_sums.specs.declared.Change.{Change}
+use Rattle.row_sums.specs.declared.Change.TheVariants.{Fall, Rise}
 use Rattle.row_sums.specs.declared.Sides.{Sides}
 
 -- what the rows of every family work on: data and plan as laid out and tested, the parts of year y, and the energies
-pub record Ready (l plan os rs cs ls : List ℕ) (energy : List (List ℕ)) (tables-at columns-at : List ℕ) (c : Counts) (y : ℕ) : Type 0 where
+pub record Ready (l plan os rs cs ls : List ℕ) (energy : List Sum) (tables-at columns-at : List ℕ) (c : Counts) (y : ℕ) : Type 0 where
   pub tables_at : TablesAt l tables-at c
   pub sound : entries_fault (read l) ≡ fine
   pub columns_at : ColumnsAt plan columns-at c
@@ -40,18 +41,19 @@ sides_of D N x r = sides (above D N x r) (below D N x r)
 abbrev pub terms_of : Equation → (Index → ℕ) → Sides
 terms_of e x = sides (value e.positive x) (value e.negative x)
 
--- of a slice and the one before it, the one whose column may not lie too far above the other's: the earlier where the fall is bound (true), the later where
--- the rise is; and the other of the two
-abbrev pub high : Bool → ℕ → ℕ
-high true s = s - 1
-high false s = s
+-- of a slice and the one before it, the one whose column may not lie too far above the other's: the earlier where the fall is bound, the later where the
+-- rise is; and the other of the two
+abbrev pub high : Change → ℕ → ℕ
+high Fall s = s - 1
+high Rise s = s
 
-abbrev pub low : Bool → ℕ → ℕ
-low falls s = high (not falls) s
+abbrev pub low : Change → ℕ → ℕ
+low Fall s = s
+low Rise s = s - 1
 
--- a ramp over the hour before of a plant's column of kind k: rate·cap bounds its fall (true) or its rise
-abbrev pub ramp_of : Data → ℕ → ℕ → Bool → ℕ → ℕ → ℕ → Equation
-ramp_of D rate k falls y g s = ramp D s (rate · cap_column y g) (index k y g 0 (high falls s)) (index k y g 0 (low falls s))
+-- a ramp over the hour before of a plant's column of kind k: rate·cap bounds its fall or its rise
+abbrev pub ramp_of : Data → ℕ → ℕ → Change → ℕ → ℕ → ℕ → Equation
+ramp_of D rate k change y g s = ramp D s (rate · cap_column y g) (index k y g 0 (high change s)) (index k y g 0 (low change s))
 
 -- two sums and a constant that adds and takes off, like terms brought together
 unfoldable pub sides_with : Sum → Sum → ℕ → Constant → Sides

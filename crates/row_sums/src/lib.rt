@@ -15,6 +15,13 @@ pub struct Sides {
     pub below: Sum,
 }
 
+// What a ramp bounds: how far an hour's output or charge lies below that of the hour before, or above it.
+#[derive(Clone, Copy, Debug, PartialEq, Eq)]
+pub enum Change {
+    Fall,
+    Rise,
+}
+
 // The constant's two parts brought together into one, then added at the scale on the side where it is not negative.
 pub fn with_constant(above: Sum, below: Sum, scale: u64, k: Constant) -> Sides
     ensures { result ≡ sides_with above below scale k }

@@ -1,4 +1,5 @@
 -- The walk over all rows: the families' index sets. Assumes nothing.
+use Rattle.model.specs.Calls.{outcome}
 use mathlib.Core.Path.{◌≡◌, sym, ap, ◌∙◌}
 use mathlib.Core.Bool.{false}
 use Prim.Native.Nat.{ℕ, ◌*◌, ◌≤◌, ◌<◌}
@@ -13,7 +14,7 @@ use Rattle.model.specs.Counts.{sets}
 use Rattle.model.specs.Data.{Data}
 use Rattle.model.specs.Families.{family, families, family_of, row_boxes, family_count}
 use Rattle.model.specs.Tests.{row_fault, rows_fault}
-use Rattle.tables.specs.Layout.{Counted, Inside, outcome}
+use Rattle.tables.specs.Layout.{Counted, Inside}
 use Rattle.tables.proofs.Laws.{get_or-map-in}
 use Rattle.tables.proofs.Members as members
 

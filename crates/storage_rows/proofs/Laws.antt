@@ -4,8 +4,7 @@ use mathlib.Core.Bool.{Bool}
 use mathlib.Core.List.{List}
 use Prim.Native.Nat.{ℕ, ◌+◌, ◌*◌, ◌<◌}
 use lib.ListN.{get_or}
-use Rattle.capped.specs.declared.Sum.{Sum}
-use Rattle.capped.specs.Cap.{cap}
+use Rattle.capped.specs.Cap.{cap, Sum}
 use Rattle.sums.specs.Sum.{on}
 use Rattle.sums.specs.Index.{index}
 use Rattle.model.specs.declared.Counts.{Counts}

@@ -25,7 +25,7 @@ use Rattle.model.specs.Data.{table_boxes, place_of, data_length, read, table_cou
 use Rattle.model.specs.Columns.{column_sets, column_boxes, column_kind_count}
 use Rattle.model.specs.declared.Family.{Family}
 use Rattle.model.specs.Families.{family, families, family_of, row_boxes, shape_of, family_count}
-use Rattle.tables.specs.Layout.{Counted, Small, Inside, EntryAt, PlanEntryAt, start_from, table_sets, plan_entry}
+use Rattle.tables.specs.Layout.{Counted, Small, Inside, TablesAt, ColumnsAt, EntryAt, start_from, table_sets, plan_entry}
 
 -- a product of two numbers with known bounds fits; antt computes the test on the bounds
 pub small : (A B : ℕ) {a b : ℕ} → T (ltb (A * B) (2 ^ 64)) → a ≤ A → b ≤ B → Fits w64 (a * b)
@@ -179,40 +179,38 @@ columns-end c = omega (arith, start-at c column_sets 0 column_kind_count (omega 
 
 -- The two laws that each reader cites, for the data and for the plan
 
-module _ {l tables-at : List ℕ} {c : Counts} {t k y i j s : ℕ} (m : EntryAt l tables-at c t k y i j s) where
+module _ {l starts : List ℕ} {c : Counts} (at : TablesAt l starts c) {t k y i j s : ℕ} (m : EntryAt table_sets c t k y i j s) where
   abbrev pub entry_place : ℕ
-  entry_place = get_or tables-at t 0 + inside (box_of (sets c) k) y i j s
+  entry_place = get_or starts t 0 + inside (box_of (sets c) k) y i j s
 
   pub entry-below : entry_place < length l
   unfolding data_length table_boxes
-  entry-below =
-      omega (arith, m.tables_at.starts t (omega arith), m.tables_at.whole, placed c table_sets 7 t k y i j s m.table m.set m.inside)
+  entry-below = omega (arith, at.starts t (omega arith), at.whole, placed c table_sets 7 t k y i j s m.table m.set m.inside)
 
   pub entry-place : entry_place ≡ place_of (read l).counts (index t y i j s)
   unfolding place_of table_boxes
   entry-place =
       omega (
         arith,
-        m.tables_at.starts t (omega arith),
+        at.starts t (omega arith),
         place_is c table_sets 7 t k y i j s m.table m.set m.inside,
-        ap (λ (d : Counts). place_of d (index t y i j s)) m.tables_at.counts,
+        ap (λ (d : Counts). place_of d (index t y i j s)) at.counts,
       )
 
   pub entry-is : get_or l entry_place 0 ≡ (read l).entry t y i j s
   unfolding read
   entry-is = ap (λ (n : ℕ). get_or l n 0) entry-place
 
-module _ {plan columns-at : List ℕ} {c : Counts} {t k y i j s : ℕ} (m : PlanEntryAt plan columns-at c t k y i j s) where
+module _ {plan starts : List ℕ} {c : Counts} (at : ColumnsAt plan starts c) {t k y i j s : ℕ} (m : EntryAt column_sets c t k y i j s) where
   abbrev pub column_place : ℕ
-  column_place = get_or columns-at t 0 + inside (box_of (sets c) k) y i j s
+  column_place = get_or starts t 0 + inside (box_of (sets c) k) y i j s
 
   pub column-below : column_place < length plan
   unfolding column_boxes
-  column-below =
-      omega (arith, m.columns_at.starts t (omega arith), m.columns_at.whole, placed c column_sets 0 t k y i j s m.table m.set m.inside)
+  column-below = omega (arith, at.starts t (omega arith), at.whole, placed c column_sets 0 t k y i j s m.table m.set m.inside)
 
   pub column-is : get_or plan column_place 0 ≡ plan_entry c plan (index t y i j s)
   unfolding column_boxes
   column-is =
       ap (λ (n : ℕ). get_or plan n 0)
-      (omega (arith, m.columns_at.starts t (omega arith), place_is c column_sets 0 t k y i j s m.table m.set m.inside))
+      (omega (arith, at.starts t (omega arith), place_is c column_sets 0 t k y i j s m.table m.set m.inside))

@@ -1,5 +1,6 @@
 -- A walk over the members of a list of boxes in the order of their numbers, left at the first fault: what each of its five loops knows.
 -- The walks over the rows and over the columns are of this kind. Assumes nothing.
+use Rattle.std.specs.Prelude.{Result, Ok, Err}
 use mathlib.Core.Path.{◌≡◌, refl, sym, ap, ◌∙◌}
 use mathlib.Core.List.{List}
 use Prim.Native.Nat.{ℕ, ◌+◌, ◌*◌, ◌≤◌, ◌<◌, zero-le}
@@ -13,10 +14,9 @@ use Rattle.sums.specs.Index.{Index, index, box_of, volume, inside, start, number
 use Rattle.sums.proofs.Sums.{sum-one-more}
 use Rattle.sums.proofs.Spans.{upto_step, upto-stop}
 use Rattle.sums.proofs.Numbering.{inside-bound}
-use Rattle.model.specs.declared.Outcome.{Outcome}
-use Rattle.model.specs.declared.Outcome.TheVariants.{Fine, Fails}
 use Rattle.model.specs.declared.Refusal.{Refusal}
-use Rattle.tables.specs.Layout.{Small, outcome}
+use Rattle.tables.specs.Layout.{Small}
+use Rattle.model.specs.Calls.{outcome}
 
 few-members : {b : Box} → Small b → volume b ≤ 983040
 few-members n = mul-le-mul (mul-le-mul (mul-le-mul n.few_years n.few_firsts) n.few_seconds) n.few_slices
@@ -24,26 +24,26 @@ few-members n = mul-le-mul (mul-le-mul (mul-le-mul n.few_years n.few_firsts) n.f
 -- The loops
 
 -- after k of n turns of a loop whose turn k tests t k: nothing is refused yet, and the next member's number, at w members to a turn
-pub record Going (t : ℕ → Fault Refusal) (n w from k row : ℕ) (answer : Outcome) : Type 0 where
-  pub accepted : answer ≡ Fine
+pub record Going (t : ℕ → Fault Refusal) (n w from k row : ℕ) (answer : Result (Unit {0}) Refusal) : Type 0 where
+  pub accepted : answer ≡ Ok tt
   pub within : k ≤ n
   pub passed : upto k t ≡ fine
   pub numbered : row ≡ from + k * w
 
-pub none : {t : ℕ → Fault Refusal} {n w row : ℕ} {answer : Outcome} → answer ≡ Fine → Going t n w row 0 row answer
+pub none : {t : ℕ → Fault Refusal} {n w row : ℕ} {answer : Result (Unit {0}) Refusal} → answer ≡ Ok tt → Going t n w row 0 row answer
 unfolding upto
 none e = record { accepted = e; within = zero-le; passed = refl; numbered = omega arith }
 
 -- its end
-pub all : {t : ℕ → Fault Refusal} {n w from k row : ℕ} {answer : Outcome} → Going t n w from k row answer → n ≤ k → (upto n t ≡ fine) × (row ≡ from + n * w)
+pub all : {t : ℕ → Fault Refusal} {n w from k row : ℕ} {answer : Result (Unit {0}) Refusal} → Going t n w from k row answer → n ≤ k → (upto n t ≡ fine) × (row ≡ from + n * w)
 all {n = n} {k = k} h l = let q : k ≡ n = le_antisymm h.within l in (rw (← q) h.passed, rw (← q) h.numbered)
 
-module _ {t : ℕ → Fault Refusal} {n w from k row : ℕ} {answer : Outcome} (h : Going t n w from k row answer) (l : k < n) where
-  pub more : {next : ℕ} {later : Outcome} → t k ≡ fine → later ≡ Fine → next ≡ row + w → Going t n w from (k + 1) next later
+module _ {t : ℕ → Fault Refusal} {n w from k row : ℕ} {answer : Result (Unit {0}) Refusal} (h : Going t n w from k row answer) (l : k < n) where
+  pub more : {next : ℕ} {later : Result (Unit {0}) Refusal} → t k ≡ fine → later ≡ Ok tt → next ≡ row + w → Going t n w from (k + 1) next later
   more e a r = record { accepted = a; within = omega arith; passed = upto_step k t h.passed ∙ e; numbered = omega (arith, r, h.numbered) }
 
   -- a turn whose test is a loop of its own
-  pub turn : {s : ℕ → Fault Refusal} {m v i next : ℕ} {later : Outcome} → Going s m v row i next later → m ≤ i → t k ≡ upto m s → m * v ≡ w
+  pub turn : {s : ℕ → Fault Refusal} {m v i next : ℕ} {later : Result (Unit {0}) Refusal} → Going s m v row i next later → m ≤ i → t k ≡ upto m s → m * v ≡ w
       → Going t n w from (k + 1) next later
   turn g p e q = let i = all g p in more (e ∙ i.0) g.accepted (omega (arith, i.1, q))
 
@@ -66,19 +66,19 @@ abbrev pub year_members : Box → ℕ
 year_members b = b.firsts * (b.seconds * b.slices)
 
 -- after the members of k kinds
-pub record Walked (T : Index → Fault Refusal) (boxes : List Box) (k row : ℕ) (answer : Outcome) : Type 0 where
-  pub accepted : answer ≡ Fine
+pub record Walked (T : Index → Fault Refusal) (boxes : List Box) (k row : ℕ) (answer : Result (Unit {0}) Refusal) : Type 0 where
+  pub accepted : answer ≡ Ok tt
   pub within : k ≤ length boxes
   pub passed : upto k (λ i. of_kind T (box_of boxes i) i) ≡ fine
   pub numbered : row ≡ start boxes k
   pub few : row ≤ 983040 * k
 
-pub walked_none : {T : Index → Fault Refusal} {boxes : List Box} {row : ℕ} {answer : Outcome} → row ≡ 0 → answer ≡ Fine → Walked T boxes 0 row answer
+pub walked_none : {T : Index → Fault Refusal} {boxes : List Box} {row : ℕ} {answer : Result (Unit {0}) Refusal} → row ≡ 0 → answer ≡ Ok tt → Walked T boxes 0 row answer
 unfolding upto sum
 walked_none z e = record { accepted = e; within = omega arith; passed = refl; numbered = z; few = omega arith }
 
-module _ {T : Index → Fault Refusal} {boxes : List Box} {k row : ℕ} {answer : Outcome} (h : Walked T boxes k row answer) where
-  pub walked_more : {b : Box} {y next : ℕ} {later : Outcome} → k < length boxes → b ≡ box_of boxes k → Small b
+module _ {T : Index → Fault Refusal} {boxes : List Box} {k row : ℕ} {answer : Result (Unit {0}) Refusal} (h : Walked T boxes k row answer) where
+  pub walked_more : {b : Box} {y next : ℕ} {later : Result (Unit {0}) Refusal} → k < length boxes → b ≡ box_of boxes k → Small b
       → Going (λ y. of_year T b k y) b.years (year_members b) row y next later → b.years ≤ y → Walked T boxes (k + 1) next later
   walked_more {b} {next = next} l e n g p =
       let a = all g p in
@@ -95,7 +95,7 @@ module _ {T : Index → Fault Refusal} {boxes : List Box} {k row : ℕ} {answer 
   walked_all l = let q : k ≡ length boxes = le_antisymm h.within l in rw q at h.passed
 
   -- one member, from where the loops stand
-  module _ {b : Box} {y i j s r1 r2 r3 r4 : ℕ} {a1 a2 a3 a4 : Outcome} (l : k < length boxes) (e : b ≡ box_of boxes k)
+  module _ {b : Box} {y i j s r1 r2 r3 r4 : ℕ} {a1 a2 a3 a4 : Result (Unit {0}) Refusal} (l : k < length boxes) (e : b ≡ box_of boxes k)
       (g1 : Going (λ y. of_year T b k y) b.years (year_members b) row y r1 a1) (l1 : y < b.years)
       (g2 : Going (λ i. of_first T b k y i) b.firsts (b.seconds * b.slices) r1 i r2 a2) (l2 : i < b.firsts)
       (g3 : Going (λ j. of_second T b k y i j) b.seconds b.slices r2 j r3 a3) (l3 : j < b.seconds)
@@ -120,10 +120,10 @@ module _ {T : Index → Fault Refusal} {boxes : List Box} {k row : ℕ} {answer 
 
 -- a member's test, from the code's answer
 
-pub outcome-fine : (f : Fault Refusal) {o : Outcome} → o ≡ outcome f → o ≡ Fine → f ≡ fine
+pub outcome-fine : (f : Fault Refusal) {o : Result (Unit {0}) Refusal} → o ≡ outcome f → o ≡ Ok tt → f ≡ fine
 outcome-fine fine e h = refl
 outcome-fine (fault r) e h = let z : ◌≡◌ {A = ℕ} 0 1 = cc in absurd (omega arith)
 
-pub outcome-fails : (f : Fault Refusal) {o : Outcome} {r : Refusal} → o ≡ outcome f → o ≡ Fails r → f ≡ fault r
+pub outcome-fails : (f : Fault Refusal) {o : Result (Unit {0}) Refusal} {r : Refusal} → o ≡ outcome f → o ≡ Err r → f ≡ fault r
 outcome-fails fine e h = let z : ◌≡◌ {A = ℕ} 0 1 = cc in absurd (omega arith)
 outcome-fails (fault q) e h = cc

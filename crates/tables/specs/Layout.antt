@@ -2,22 +2,13 @@
 use Rattle.std.specs.Prelude.{◌≡◌, List, [], ◌∷◌, map, ℕ, ◌+◌, ◌*◌, ◌≤◌, ◌<◌, length, get_or}
 use Rattle.sums.specs.declared.Box.{Box}
 use Rattle.sums.specs.Sum.{sum}
-use Rattle.sums.specs.Span.{Fault, fine, fault}
 use Rattle.sums.specs.Index.{Index, box_of, volume, count, number}
-use Rattle.model.specs.declared.Outcome.{Outcome}
-use Rattle.model.specs.declared.Outcome.TheVariants.{Fine, Fails}
-use Rattle.model.specs.declared.Refusal.{Refusal}
 use Rattle.model.specs.declared.Shape.{Shape}
 use Rattle.model.specs.declared.Counts.{Counts}
 use Rattle.model.specs.Counts.{sets}
 use Rattle.model.specs.Data.{Data, Table, tables, table_boxes, most_counts, data_length, read}
 use Rattle.model.specs.Columns.{column_sets, column_boxes}
 use Rattle.model.specs.Families.{row_boxes}
-
--- a test's outcome as the code has it
-abbrev pub outcome : Fault Refusal → Outcome
-outcome fine = Fine
-outcome (fault r) = Fails r
 
 -- counts that passed refusal 1
 pub record Counted (c : Counts) : Type 0 where
@@ -70,19 +61,10 @@ pub record Inside (c : Counts) (k y i j s : ℕ) : Type 0 where
   pub second : j < (box_of (sets c) k).seconds
   pub slice : s < (box_of (sets c) k).slices
 
--- entry y, i, j, s of table t can be read: the table's index set has the code k
-pub record EntryAt (l tables-at : List ℕ) (c : Counts) (t k y i j s : ℕ) : Type 0 where
-  pub tables_at : TablesAt l tables-at c
-  pub table : t < length tables
-  pub set : get_or table_sets t 0 ≡ k
-  pub inside : Inside c k y i j s
-
--- the same of the plan's kind of column t
-pub record PlanEntryAt (plan columns-at : List ℕ) (c : Counts) (t k y i j s : ℕ) : Type 0 where
-  pub columns_at : ColumnsAt plan columns-at c
-  pub counted : Counted c
-  pub table : t < length column_sets
-  pub set : get_or column_sets t 0 ≡ k
+-- entry y, i, j, s of table t can be read, of the data or of the plan by the list of its tables' index sets: the table's set has the code k
+pub record EntryAt (kinds : List ℕ) (c : Counts) (t k y i j s : ℕ) : Type 0 where
+  pub table : t < length kinds
+  pub set : get_or kinds t 0 ≡ k
   pub inside : Inside c k y i j s
 
 -- the plan's entry of a column, by the counts alone; over data with these counts it is `entries`

@@ -130,9 +130,9 @@ fn starts_from(c: Counts, kinds: &[usize], from: usize) -> Starts
     let mut starts = [0; STARTS];
     let mut next = from;
     starts[0] = next;
-    for k in 0..kinds.len() {
-        let b = box_of(c, kinds[k]);
-        next = next + members_of(b);
+    for (k, &set) in kinds.iter().enumerate() {
+        let b = box_of(c, set);
+        next += members_of(b);
         starts[k + 1] = next;
     }
     starts

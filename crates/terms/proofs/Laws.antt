@@ -5,8 +5,7 @@ use mathlib.Core.Bool.{Bool, true, false}
 use Prim.Native.Nat.{ℕ, ◌+◌, ◌*◌, ◌≤◌, ◌<◌, zero-le}
 use native.Mathlib.Nat.{add-zero, le_antisymm, mul_assoc, mul-le-mul}
 use native.Mathlib.Omega.{arith}
-use Rattle.capped.specs.declared.Sum.{Sum}
-use Rattle.capped.specs.Cap.{cap, plus_if}
+use Rattle.capped.specs.Cap.{cap, plus_if, Sum}
 use Rattle.capped.proofs.Laws.{plus-cap}
 use Rattle.sums.specs.Sum.{sum, on}
 use Rattle.sums.proofs.Sums.{sum-one-more}

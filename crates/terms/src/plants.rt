@@ -3,146 +3,99 @@ ghost use Rattle.std.specs.Prelude.{◌≡◌, ◌+◌, ◌*◌, ◌≤◌, ◌<
 ghost use Rattle.capped.specs.Cap.{cap};
 ghost use Rattle.sums.specs.Sum.{sum, on};
 ghost use Rattle.model.specs.Counts.{slices_of, season_length};
-ghost use Rattle.model.specs.Data.{read, zone, cap_credit, duration, rate, weight, annuity, candidate, is_vre};
+ghost use Rattle.model.specs.Data.{zone, cap_credit, duration, rate, weight, annuity, candidate, is_vre};
 ghost use Rattle.model.specs.Columns.{cap as cap_column};
-ghost use Rattle.tables.specs.Layout.{TablesAt, ColumnsAt, plan_entry};
+ghost use Rattle.tables.specs.Lists.{data_of, entry_of};
 
+use crate::totals::{product_if, total};
 use capped::Sum;
-use model::Counts;
-use parts::slices::both;
 use parts::years::part_at;
-use tables::entries::{by_plant, by_slice, by_year, by_year_plant, planned_by_year_plant};
+use tables::lists::{Case, Tables};
 use tables::names::{ANNUITY, CAP, CAP_CREDIT, DURATION, KIND, RATE, VRE, WEIGHT, ZONE};
-use tables::starts::Starts;
 
 // 1000·Σ of a year's part over the plants of zone z, in slice s.
-pub fn zone_sum(data: &[u32], tables_at: &Starts, c: Counts, part: &[u32], z: u64, s: usize) -> Sum
-    requires { TablesAt «data».now tables_at.now c × ((length part.now ≡ c.plants * slices_of c) × (s < slices_of c)) }
-    ensures { result ≡ cap (sum c.plants (λ g. on (eqb (zone (read «data».now) g) z) (1000 * get_or part.now (g * slices_of c + s) 0))) }
+pub fn zone_sum(tables: &Tables, part: &[u32], z: u64, s: usize) -> Sum
+    requires { (length part.now ≡ tables.now.counts.plants * slices_of tables.now.counts) × (s < slices_of tables.now.counts) }
+    ensures { result ≡ cap (sum tables.now.counts.plants (λ g. on (eqb (zone (data_of tables.now) g) z) (1000 * get_or part.now (g * slices_of tables.now.counts + s) 0))) }
 {
-    let mut total = capped::zero();
-    for g in 0..c.plants {
-        let here = by_plant(data, tables_at, c, ZONE, g) == z;
-        total = capped::add_product_if(here, total, 1000, part_at(part, c, g, s));
-    }
-    total
+    total(tables.counts.plants, |g| {
+        let here = tables.by_plant(ZONE, g) == z;
+        product_if(here, 1000, part_at(part, tables.counts, g, s))
+    })
 }
 
 // Err·Σ gen of VRE over the plants of zone z, in slice s.
-pub fn vre_sum(
-    data: &[u32],
-    tables_at: &Starts,
-    c: Counts,
-    part: &[u32],
-    z: u64,
-    err: u64,
-    s: usize,
-) -> Sum
-    requires { TablesAt «data».now tables_at.now c × ((length part.now ≡ c.plants * slices_of c) × (s < slices_of c)) }
-    ensures { result ≡ cap (sum c.plants (λ g. on (eqb (zone (read «data».now) g) z) (on (is_vre (read «data».now) g) (err * get_or part.now (g * slices_of c + s) 0)))) }
+pub fn vre_sum(tables: &Tables, part: &[u32], z: u64, err: u64, s: usize) -> Sum
+    requires { (length part.now ≡ tables.now.counts.plants * slices_of tables.now.counts) × (s < slices_of tables.now.counts) }
+    ensures { result ≡ cap (sum tables.now.counts.plants (λ g. on (eqb (zone (data_of tables.now) g) z) (on (is_vre (data_of tables.now) g) (err * get_or part.now (g * slices_of tables.now.counts + s) 0)))) }
 {
-    let mut total = capped::zero();
-    for g in 0..c.plants {
-        let here = both(
-            by_plant(data, tables_at, c, ZONE, g) == z,
-            by_plant(data, tables_at, c, VRE, g) == 1,
-        );
-        total = capped::add_product_if(here, total, err, part_at(part, c, g, s));
-    }
-    total
+    total(tables.counts.plants, |g| {
+        let here = (tables.by_plant(ZONE, g) == z) & tables.is_vre(g);
+        product_if(here, err, part_at(part, tables.counts, g, s))
+    })
 }
 
 // Σ CapCredit·cap over the plants of zone z.
-pub fn credit_sum(
-    data: &[u32],
-    plan: &[u32],
-    tables_at: &Starts,
-    columns_at: &Starts,
-    c: Counts,
-    y: usize,
-    z: u64,
-) -> Sum
-    requires { TablesAt «data».now tables_at.now c × (ColumnsAt plan.now columns_at.now c × (y < c.years)) }
-    ensures { result ≡ cap (sum c.plants (λ g. on (eqb (zone (read «data».now) g) z) (cap_credit (read «data».now) g * plan_entry c plan.now (cap_column y g)))) }
+pub fn credit_sum(case: &Case, y: usize, z: u64) -> Sum
+    requires { y < case.now.plan.counts.years }
+    ensures { result ≡ cap (sum case.now.plan.counts.plants (λ g. on (eqb (zone (data_of case.now.tables) g) z) (cap_credit (data_of case.now.tables) g * entry_of case.now.plan (cap_column y g)))) }
 {
-    let mut total = capped::zero();
-    for g in 0..c.plants {
-        let here = by_plant(data, tables_at, c, ZONE, g) == z;
-        let credit = by_plant(data, tables_at, c, CAP_CREDIT, g);
-        total = capped::add_product_if(
-            here,
-            total,
-            credit,
-            planned_by_year_plant(plan, columns_at, c, CAP, y, g),
-        );
-    }
-    total
+    total(case.plan.counts.plants, |g| {
+        let here = case.tables.by_plant(ZONE, g) == z;
+        let credit = case.tables.by_plant(CAP_CREDIT, g);
+        product_if(here, credit, case.plan.by_year_plant(CAP, y, g))
+    })
 }
 
-// Σ R·V·Annuity·cap over the candidates, in year y.
-pub fn annuity_sum(
-    data: &[u32],
-    plan: &[u32],
-    tables_at: &Starts,
-    columns_at: &Starts,
-    c: Counts,
-    y: usize,
-) -> Sum
-    requires { TablesAt «data».now tables_at.now c × (ColumnsAt plan.now columns_at.now c × (y < c.years)) }
-    ensures { result ≡ cap (sum c.plants (λ g. on (candidate (read «data».now) g) (rate (read «data».now) y * weight (read «data».now) y * annuity (read «data».now) y g * plan_entry c plan.now (cap_column y g)))) }
+// share·Annuity·cap of a candidate in year y, else 0.
+fn annuity_of(case: &Case, share: u64, y: usize, g: usize) -> Sum
+    requires { (y < case.now.plan.counts.years) × (g < case.now.plan.counts.plants) }
+    ensures { result ≡ cap (on (candidate (data_of case.now.tables) g) (share * annuity (data_of case.now.tables) y g * entry_of case.now.plan (cap_column y g))) }
 {
-    let share = year_weight(data, tables_at, c, y);
-    let mut total = capped::zero();
-    for g in 0..c.plants {
-        let candidate = by_plant(data, tables_at, c, KIND, g) != 0;
-        let annuity = by_year_plant(data, tables_at, c, ANNUITY, y, g);
-        total = capped::add_product3_if(
-            candidate,
-            total,
-            share,
-            annuity,
-            planned_by_year_plant(plan, columns_at, c, CAP, y, g),
-        );
+    if case.tables.is_existing(g) {
+        return capped::zero();
     }
-    total
-}
-
-// W = R·V
-pub fn year_weight(data: &[u32], tables_at: &Starts, c: Counts, y: usize) -> u64
-    requires { TablesAt «data».now tables_at.now c × (y < c.years) }
-    ensures { result ≡ rate (read «data».now) y * weight (read «data».now) y }
-{
-    by_year(data, tables_at, c, RATE, y) * by_year(data, tables_at, c, WEIGHT, y)
+    let annuity = case.tables.by_year_plant(ANNUITY, y, g);
+    capped::scale(
+        capped::product(share, annuity),
+        case.plan.by_year_plant(CAP, y, g),
+    )
 }
 
 // Σ R·V·Annuity·cap over years and candidates.
-pub fn capital_sum(
-    data: &[u32],
-    plan: &[u32],
-    tables_at: &Starts,
-    columns_at: &Starts,
-    c: Counts,
-) -> Sum
-    requires { TablesAt «data».now tables_at.now c × ColumnsAt plan.now columns_at.now c }
-    ensures { result ≡ cap (sum c.years (λ y. sum c.plants (λ g. on (candidate (read «data».now) g) (rate (read «data».now) y * weight (read «data».now) y * annuity (read «data».now) y g * plan_entry c plan.now (cap_column y g))))) }
+pub fn capital_sum(case: &Case) -> Sum
+    ensures { result ≡ cap (sum case.now.plan.counts.years (λ y. sum case.now.plan.counts.plants (λ g. on (candidate (data_of case.now.tables) g) (rate (data_of case.now.tables) y * weight (data_of case.now.tables) y * annuity (data_of case.now.tables) y g * entry_of case.now.plan (cap_column y g))))) }
 {
-    let mut total = capped::zero();
-    for y in 0..c.years {
-        total = capped::join(total, annuity_sum(data, plan, tables_at, columns_at, c, y));
-    }
-    total
+    total(case.plan.counts.years, |y| annuity_sum(case, y))
+}
+
+// The same over the candidates, in year y.
+pub fn annuity_sum(case: &Case, y: usize) -> Sum
+    requires { y < case.now.plan.counts.years }
+    ensures { result ≡ cap (sum case.now.plan.counts.plants (λ g. on (candidate (data_of case.now.tables) g) (rate (data_of case.now.tables) y * weight (data_of case.now.tables) y * annuity (data_of case.now.tables) y g * entry_of case.now.plan (cap_column y g)))) }
+{
+    let share = year_weight(&case.tables, y);
+    total(case.plan.counts.plants, |g| annuity_of(case, share, y, g))
+}
+
+// W = R·V
+pub fn year_weight(tables: &Tables, y: usize) -> u64
+    requires { y < tables.now.counts.years }
+    ensures { result ≡ rate (data_of tables.now) y * weight (data_of tables.now) y }
+{
+    tables.by_year(RATE, y) * tables.by_year(WEIGHT, y)
 }
 
 // Σ Dur over the slices of season q.
-pub fn season_hours(data: &[u32], tables_at: &Starts, c: Counts, q: usize) -> u64
-    requires { TablesAt «data».now tables_at.now c × (q < c.seasons) }
-    ensures { (result ≡ sum (season_length c) (λ i. duration (read «data».now) (q * season_length c + i))) × (result ≤ 412316860320) }
+pub fn season_hours(tables: &Tables, q: usize) -> u64
+    requires { q < tables.now.counts.seasons }
+    ensures { (result ≡ sum (season_length tables.now.counts) (λ i. duration (data_of tables.now) (q * season_length tables.now.counts + i))) × (result ≤ 412316860320) }
 {
-    let p = c.days * c.hours;
+    let p = tables.counts.days * tables.counts.hours;
     let from = q * p;
     let mut total = 0;
     for i in 0..p {
-        total = total + by_slice(data, tables_at, c, DURATION, from + i);
+        total = total + tables.by_slice(DURATION, from + i);
     }
     total
 }

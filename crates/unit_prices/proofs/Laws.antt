@@ -5,8 +5,7 @@ use Prim.Native.Nat.{ℕ, ◌+◌, ◌*◌, ◌≤◌, ◌<◌}
 use native.Mathlib.Nat.{add-zero}
 use lib.Dec.{eqb, ltb}
 use borrow.Author.Tests.{eq-eqb, ne_eqb, lt-ltb, le-ltb}
-use Rattle.capped.specs.declared.Sum.{Sum}
-use Rattle.capped.specs.Cap.{cap, plus}
+use Rattle.capped.specs.Cap.{cap, plus, Sum}
 use Rattle.capped.proofs.Laws.{plus-cap}
 use Rattle.sums.specs.Sum.{on}
 use Rattle.sums.proofs.Tests.{on-true, on-false}

@@ -1,4 +1,7 @@
 -- The verdict on a column, as the code finds it and as the document says it. Assumes nothing.
+use Rattle.model.specs.declared.Refusal.{Refusal}
+use Rattle.std.specs.Prelude.{Result, Err}
+use Rattle.model.specs.Calls.{outcome}
 use mathlib.Core.Path.{◌≡◌, ◌∙◌}
 use mathlib.Core.Bool.{Bool, true, false, ◌&&◌, ◌||◌}
 use mathlib.Core.List.{List}
@@ -9,23 +12,19 @@ use native.Mathlib.Omega.{arith}
 use lib.Dec.{leb}
 use lib.IntN.{ℤ}
 use borrow.Author.Tests.{le-ltb, lt-ltb, le-leb, lt-leb}
-use Rattle.capped.specs.declared.Sum.{Sum}
 use Rattle.compared.specs.declared.Order.{Order}
-use Rattle.capped.specs.Cap.{limit, cap, both, times}
+use Rattle.capped.specs.Cap.{limit, cap, both, times, Sum}
 use Rattle.compared.specs.Compared.{over, order}
 use Rattle.capped.proofs.Laws.{le-or-lt, both-cap}
 use Rattle.compared.proofs.Laws.{over-cap, lt_order, eq-order, gt-order}
 use Rattle.sums.specs.Span.{or_else}
 use Rattle.sums.specs.declared.Place.{Place}
 use Rattle.sums.specs.Index.{index_of}
-use Rattle.model.specs.declared.Outcome.{Outcome}
-use Rattle.model.specs.declared.Outcome.TheVariants.{Fails}
 use Rattle.model.specs.declared.Refusal.TheVariants.{ColumnOffScale, Underpriced}
 use Rattle.model.specs.Data.{Data}
 use Rattle.model.specs.Columns.{column_number, column_kind_count}
 use Rattle.model.specs.Prices.{price}
 use Rattle.model.specs.Tests.{priced⁺, priced⁻, unless, column_fault}
-use Rattle.tables.specs.Layout.{outcome}
 use Rattle.column_prices.specs.Factors.{unit_price, hours_of}
 use Rattle.column_prices.proofs.Laws.{column-price}
 use Rattle.column_terms.specs.declared.Pair.{Pair}
@@ -40,11 +39,11 @@ pub second-over : (a b : Sum) {r : Bool} → over a ≡ false → r ≡ over b �
 second-over a b e q = q ∙ rw e
 
 module _ (v : Pair) (p : Sum) (column : ℕ) where
-  pub off-scale : (over v.up || over v.down) ≡ true → Fails (ColumnOffScale column) ≡ verdict_of v p column
+  pub off-scale : (over v.up || over v.down) ≡ true → Err (ColumnOffScale column) ≡ verdict_of v p column
   unfolding verdict_of
   off-scale a = rw a
 
-  pub on-scale : {w : Outcome} {t : Sum} (o : Order) → (over v.up || over v.down) ≡ false → t ≡ both p v.down → order v.up t ≡ o
+  pub on-scale : {w : Result (Unit {0}) Refusal} {t : Sum} (o : Order) → (over v.up || over v.down) ≡ false → t ≡ both p v.down → order v.up t ≡ o
       → w ≡ ordered o column → w ≡ verdict_of v p column
   unfolding verdict_of
   on-scale o a j q h = h ∙ rw (a, ← j, q)

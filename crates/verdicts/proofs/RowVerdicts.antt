@@ -1,4 +1,7 @@
 -- The verdict on a row, as the code finds it and as the document says it. Assumes nothing.
+use Rattle.model.specs.declared.Refusal.{Refusal}
+use Rattle.std.specs.Prelude.{Result, Err}
+use Rattle.model.specs.Calls.{outcome}
 use mathlib.Core.Path.{◌≡◌, refl, ◌∙◌}
 use mathlib.Core.Bool.{Bool, true, false, ◌&&◌}
 use mathlib.Core.Logic.{⊎_elim}
@@ -14,28 +17,25 @@ use Rattle.capped.proofs.Laws.{le-or-lt}
 use Rattle.compared.proofs.Laws.{over-cap, lt_order, eq-order, gt-order}
 use Rattle.sums.specs.Span.{or_else}
 use Rattle.sums.specs.Index.{Index}
-use Rattle.model.specs.declared.Outcome.{Outcome}
-use Rattle.model.specs.declared.Outcome.TheVariants.{Fails}
 use Rattle.model.specs.declared.Refusal.TheVariants.{RowOffScale, Broken}
 use Rattle.model.specs.Data.{Data}
 use Rattle.model.specs.Families.{equal, row_number}
 use Rattle.model.specs.Tests.{above, below, constant⁺, constant⁻, unless, holds, row_fault}
-use Rattle.tables.specs.Layout.{outcome}
 use Rattle.row_sums.specs.declared.Sides.{Sides}
 use Rattle.row_sums.specs.Ready.{sides_of}
 use Rattle.verdicts.specs.Rows.{verdict_of, ordered}
 
 -- the code's ways out
 module _ (v : Sides) (e : Bool) (row : ℕ) where
-  pub above-over : over v.above ≡ true → Fails (RowOffScale row) ≡ verdict_of v e row
+  pub above-over : over v.above ≡ true → Err (RowOffScale row) ≡ verdict_of v e row
   unfolding verdict_of
   above-over a = rw a
 
-  pub below-over : over v.above ≡ false → over v.below ≡ true → Fails (RowOffScale row) ≡ verdict_of v e row
+  pub below-over : over v.above ≡ false → over v.below ≡ true → Err (RowOffScale row) ≡ verdict_of v e row
   unfolding verdict_of
   below-over a b = rw (a, b)
 
-  pub neither-over : {w : Outcome} (o : Order) → over v.above ≡ false → over v.below ≡ false → order v.below v.above ≡ o → w ≡ ordered e o row
+  pub neither-over : {w : Result (Unit {0}) Refusal} (o : Order) → over v.above ≡ false → over v.below ≡ false → order v.below v.above ≡ o → w ≡ ordered e o row
       → w ≡ verdict_of v e row
   unfolding verdict_of
   neither-over o a b q h = h ∙ rw (a, b, q)

@@ -6,7 +6,7 @@ ghost use Rattle.verdicts.specs.Columns.{verdict_of};
 use capped::Sum;
 use column_terms::Pair;
 use compared::Order;
-use model::{Outcome, Refusal};
+use model::{Refusal};
 
 // Whether either sum of a column is over the limit.
 fn off_scale(sums: Pair) -> bool
@@ -21,19 +21,19 @@ fn off_scale(sums: Pair) -> bool
 }
 
 // 11 where a sum is over the limit, else 12 where the terms above zero exceed the price and the terms below.
-pub fn verdict(sums: Pair, price: Sum, column: usize) -> Outcome
+pub fn verdict(sums: Pair, price: Sum, column: usize) -> Result<(), Refusal>
     ensures { result ≡ verdict_of sums price column }
 {
     if off_scale(sums) {
-        return Outcome::Fails(Refusal::ColumnOffScale(column));
+        return Err(Refusal::ColumnOffScale(column));
     }
     let up = sums.up;
     let down = sums.down;
     match compared::compare(up, capped::join(price, down)) {
-        Order::Less => Outcome::Fine,
-        Order::Equal => Outcome::Fine,
-        Order::Greater => Outcome::Fails(Refusal::Underpriced(column)),
+        Order::Less => Ok(()),
+        Order::Equal => Ok(()),
+        Order::Greater => Err(Refusal::Underpriced(column)),
         // Never reached: `up` is not over here, and an order is unknown of two sums that are over alone (compared's law `order-unknown`).
-        Order::Unknown => Outcome::Fails(Refusal::Underpriced(column)),
+        Order::Unknown => Err(Refusal::Underpriced(column)),
     }
 }

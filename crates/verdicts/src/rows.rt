@@ -3,31 +3,31 @@ ghost use Rattle.std.specs.Prelude.{◌≡◌};
 ghost use Rattle.verdicts.specs.Rows.{verdict_of};
 
 use compared::Order;
-use model::{Outcome, Refusal};
+use model::{Refusal};
 use row_sums::Sides;
 
 // 6 where a sum is over the limit, else 7 where the row does not hold.
-pub fn verdict(sides: Sides, equal: bool, row: usize) -> Outcome
+pub fn verdict(sides: Sides, equal: bool, row: usize) -> Result<(), Refusal>
     ensures { result ≡ verdict_of sides equal row }
 {
     let above = sides.above;
     let below = sides.below;
     if compared::is_over(above) {
-        return Outcome::Fails(Refusal::RowOffScale(row));
+        return Err(Refusal::RowOffScale(row));
     }
     if compared::is_over(below) {
-        return Outcome::Fails(Refusal::RowOffScale(row));
+        return Err(Refusal::RowOffScale(row));
     }
     match compared::compare(below, above) {
         Order::Less => {
             if equal {
-                return Outcome::Fails(Refusal::Broken(row));
+                return Err(Refusal::Broken(row));
             }
-            Outcome::Fine
+            Ok(())
         }
-        Order::Equal => Outcome::Fine,
-        Order::Greater => Outcome::Fails(Refusal::Broken(row)),
+        Order::Equal => Ok(()),
+        Order::Greater => Err(Refusal::Broken(row)),
         // Never reached: neither sum is over here, and of two such sums the order is known (compared's law `order-unknown`).
-        Order::Unknown => Outcome::Fails(Refusal::Broken(row)),
+        Order::Unknown => Err(Refusal::Broken(row)),
     }
 }

@@ -3,8 +3,7 @@ use mathlib.Core.Path.{◌≡◌, ap, ◌∙◌}
 use mathlib.Core.List.{List}
 use Prim.Native.Nat.{ℕ, ◌+◌, ◌*◌, ◌<◌}
 use lib.ListN.{get_or}
-use Rattle.capped.specs.declared.Sum.{Sum}
-use Rattle.capped.specs.Cap.{cap}
+use Rattle.capped.specs.Cap.{cap, Sum}
 use Rattle.sums.specs.Sum.{sum}
 use Rattle.sums.specs.Index.{index}
 use Rattle.sums.proofs.Sums.{sum-cong}

@@ -7,5 +7,5 @@ pub returns : goal.returns
 unfolding sides_of
 returns c D N =
     plain _ _ _
-    (two-sums _ _ (product_is c.product.ensures refl c.planned_by_link-total.ensures.0)
-    (plus-is _ c.add_product.ensures c.earlier-before.ensures refl c.planned_by_link.ensures.0))
+    (two-sums _ _ (product_is c.product.ensures refl c.by_link-total.ensures.0)
+    (plus-is _ c.add_product.ensures c.earlier-before.ensures refl c.by_link.ensures.0))

@@ -13,5 +13,5 @@ unfolding sides_of
 returns c D N =
     rw (lt-ltb _ _ c.if-z-w.false)
     (plain _ _ _
-    (two-sums _ _ (product_is c.product.ensures refl c.planned_by_link.ensures.0)
-    (product_is c.product-2.ensures refl c.planned_by_link-2.ensures.0)))
+    (two-sums _ _ (product_is c.product.ensures refl c.by_link.ensures.0)
+    (product_is c.product-2.ensures refl c.by_link-2.ensures.0)))

@@ -6,5 +6,5 @@ use Rattle.cable_rows.proofs.new_lines.Goals as goal
 pub returns : goal.returns
 unfolding sides_of constant_of
 returns c =
-    rw c.requires.0.0.counts
+    rw c.args.case.now.tables.laid_out.counts
     (limit _ _ c.at_most.ensures c.new_lines_constant.ensures c.over_years.ensures)

@@ -3,14 +3,14 @@ use Rattle.capped.specs.Cap.{times_both}
 use borrow.Author.Rules.{rules}
 use Rattle.capped.proofs.multiply.Goals as goal
 
-pub returns-in-Exact : goal.returns-in-Exact
+pub returns-in_err-s-in-None : goal.returns-in_err-s-in-None
 unfolding times_both
-returns-in-Exact c = c.scale.ensures ∙ rw c.in-Exact.is
+returns-in_err-s-in-None c = search rules
 
-pub returns-in-Exact-s : goal.returns-in-Exact-s
+pub returns-in-Some : goal.returns-in-Some
 unfolding times_both
-returns-in-Exact-s c = c.scale-in-Exact-s.ensures ∙ rw (c.in-Exact-s.is, c.in-Over.is)
+returns-in-Some c = c.scale.ensures ∙ rw c.in-Some.is
 
-pub returns-in-Over-s : goal.returns-in-Over-s
+pub returns-in_ok-s-in-None : goal.returns-in_ok-s-in-None
 unfolding times_both
-returns-in-Over-s c = search rules
+returns-in_ok-s-in-None c = c.scale-in-None.ensures ∙ rw (c.in_ok-s-in-None.was, c.in-None.is)

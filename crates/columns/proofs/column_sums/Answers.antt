@@ -50,7 +50,7 @@ pub built_column-requires : goal.built_column-requires
 built_column-requires c = pair-by-year 12 c.in-12.is c.requires
 
 pub total_column-requires : goal.total_column-requires
-total_column-requires c = let p = c.requires in by-pair 13 (last_arm (column_kind_count - 1) (column-inside _ p.1).0 c.in_default.in_default-own.rest) p
+total_column-requires c = let p = c.requires in by-pair 13 (last_arm (column_kind_count - 1) (column-inside _ c.requires).0 c.in_default.in_default-own.rest) p
 
 pub returns-in-0 : goal.returns-in-0
 unfolding standing⁺ standing⁻
@@ -105,10 +105,10 @@ returns-in-11 c = column-is 11 c.in-11.is c.requires c.level_column.ensures
 
 pub returns-in-12 : goal.returns-in-12
 unfolding standing⁺ standing⁻
-returns-in-12 c = column-is 12 c.in-12.is c.requires (c.built_column.ensures (read c.args.«data».now))
+returns-in-12 c = column-is 12 c.in-12.is c.requires (c.built_column.ensures (read c.args.pricing.now.tested.tables.now.list.now))
 
 pub returns-in_default : goal.returns-in_default
 unfolding standing⁺ standing⁻
 returns-in_default c =
     let p = c.requires in
-    column-is 13 (last_arm (column_kind_count - 1) (column-inside _ p.1).0 c.in_default.in_default-own.rest) p c.total_column.ensures
+    column-is 13 (last_arm (column_kind_count - 1) (column-inside _ c.requires).0 c.in_default.in_default-own.rest) p c.total_column.ensures

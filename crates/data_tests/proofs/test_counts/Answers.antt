@@ -1,11 +1,10 @@
+use Rattle.model.specs.Calls.{outcome}
 use mathlib.Core.Path.{◌≡◌, refl, sym, ap, ◌∙◌}
-use Prim.Native.Nat.{◌-◌}
 use borrow.Author.Rules.{rules}
 use native.Mathlib.Omega.{arith}
 use Rattle.sums.specs.Span.{upto}
 use Rattle.sums.proofs.Spans.{upto_step, upto-stop}
 use Rattle.model.specs.Tests.{unless, counts_fault}
-use Rattle.tables.specs.Layout.{outcome}
 use Rattle.data_tests.proofs.Passed.{count-tested}
 use Rattle.data_tests.proofs.test_counts.Goals as goal
 

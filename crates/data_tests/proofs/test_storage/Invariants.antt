@@ -6,7 +6,7 @@ use Rattle.model.specs.Tests.{plant_storage_fault}
 use Rattle.data_tests.proofs.test_storage.Given as goal
 
 abbrev pub invariant-loop-g : goal.invariant-loop-g
-invariant-loop-g l = (l.g ≤ l.c.plants) × (upto l.g (plant_storage_fault (read l.«data»)) ≡ fine)
+invariant-loop-g l = (l.g ≤ l.tables.counts.plants) × (upto l.g (plant_storage_fault (read l.tables.list.now)) ≡ fine)
 
 abbrev pub decreases-loop-g : goal.decreases-loop-g
 decreases-loop-g l = l.g-end - l.g

@@ -8,9 +8,8 @@ use Rattle.dispatch_rows.proofs.loading.Goals as goal
 pub returns : goal.returns
 unfolding sides_of
 returns c N =
-    let p = c.requires in
-    let hg = p.1.1.0 in
-    let hs = p.1.1.1 in
+    let hg = c.requires.1.1.0 in
+    let hs = c.requires.1.1.1 in
     plain N _ _
     (two-sums _ _ (product_is c.rate_of_capacity.ensures (ap (λ (v : ℕ). 1000 + v) c.by_plant-rate.ensures.0) refl)
-    (join_is _ _ c.join.ensures (part-entry p.0.1.1.0 hg hs c.in_thousandths.ensures) (part-entry p.0.1.1.1 hg hs c.in_thousandths-2.ensures)))
+    (join_is _ _ c.join.ensures (part-entry c.requires.0.0 hg hs c.in_thousandths.ensures) (part-entry c.requires.0.1 hg hs c.in_thousandths-2.ensures)))

@@ -8,15 +8,13 @@ use Rattle.dispatch_rows.proofs.minimum_load.Goals as goal
 pub returns-then-by_day-ne1 : goal.returns-then-by_day-ne1
 unfolding sides_of
 returns-then-by_day-ne1 c N =
-    let p = c.requires in
-    rw (p.0.0.counts, ← c.season_of.ensures.0, ← c.day_of.ensures.0, flag_off 1 c.by_day.ensures.0 c.if-by_day-ne1.true)
+    rw (c.args.case.now.tables.laid_out.counts, ← c.args.case.now.same_counts, ← c.season_of.ensures.0, ← c.day_of.ensures.0, flag_off 1 c.by_day.ensures.0 c.if-by_day-ne1.true)
     (plain N 0 0 c.empty.ensures)
 
 pub returns : goal.returns
 unfolding sides_of
 returns c N =
-    let p = c.requires in
-    rw (p.0.0.counts, ← c.season_of.ensures.0, ← c.day_of.ensures.0, flag-on 1 c.by_day.ensures.0 c.if-by_day-ne1.false)
+    rw (c.args.case.now.tables.laid_out.counts, ← c.args.case.now.same_counts, ← c.season_of.ensures.0, ← c.day_of.ensures.0, flag-on 1 c.by_day.ensures.0 c.if-by_day-ne1.false)
     (plain N _ _
-    (two-sums _ _ (part-entry p.0.1.1 p.1.1.0 p.1.1.1 c.in_thousandths.ensures)
+    (two-sums _ _ (part-entry c.requires.0 c.requires.1.1.0 c.requires.1.1.1 c.in_thousandths.ensures)
     (product_is c.rate_of_capacity.ensures c.by_plant-rate.ensures.0 refl)))

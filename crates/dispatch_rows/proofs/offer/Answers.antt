@@ -7,7 +7,6 @@ use Rattle.dispatch_rows.proofs.offer.Goals as goal
 pub returns : goal.returns
 unfolding sides_of
 returns c N =
-    let p = c.requires in
     plain N _ _
     (two-sums _ _ (product_is c.rate_of_capacity.ensures c.by_plant-rate.ensures.0 refl)
-    (part-entry p.0.1.1 p.1.1.0 p.1.1.1 c.in_thousandths.ensures))
+    (part-entry c.requires.0 c.requires.1.1.0 c.requires.1.1.1 c.in_thousandths.ensures))

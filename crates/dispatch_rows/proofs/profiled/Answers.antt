@@ -11,8 +11,7 @@ returns-then-not-is_vre c N = rw (← c.is_vre.ensures, c.if-not-is_vre.true) (p
 pub returns : goal.returns
 unfolding sides_of
 returns c N =
-    let p = c.requires in
     rw (← c.is_vre.ensures, c.if-not-is_vre.false)
     (plain N _ _
     (two-sums _ _ (product_is c.rate_of_capacity.ensures c.by_plant_slice-rate.ensures.0 refl)
-    (part-entry p.0.1.1 p.1.1.0 p.1.1.1 c.in_thousandths.ensures)))
+    (part-entry c.requires.0 c.requires.1.1.0 c.requires.1.1.1 c.in_thousandths.ensures)))

@@ -1,38 +1,23 @@
 use mathlib.Core.Path.{refl}
-use mathlib.Core.Bool.{not}
+use native.Mathlib.Omega.{arith}
 use Rattle.row_sums.proofs.Laws.{product_is, join_is, two-sums, first-hour, later-hour, some-before}
-use Rattle.dispatch_rows.proofs.Laws.{part-entry, high-inside}
+use Rattle.dispatch_rows.proofs.Laws.{part-entry}
 use Rattle.dispatch_rows.proofs.ramp.Goals as goal
 
 pub returns-then-first_hour : goal.returns-then-first_hour
 returns-then-first_hour c k part =
-    let p = c.requires in
-    rw (p.0.0.tables_at.counts, first-hour _ c.first_hour.ensures c.if-first_hour.true) c.empty.ensures
+    rw (c.args.case.now.tables.laid_out.counts, ← c.args.case.now.same_counts, first-hour _ c.first_hour.ensures c.if-first_hour.true) c.empty.ensures
 
-pub low_slice-requires : goal.low_slice-requires
-low_slice-requires c = some-before _ _ c.first_hour.ensures c.if-first_hour.false
-
-pub in_thousandths-requires : goal.in_thousandths-requires
-in_thousandths-requires c =
-    let p = c.requires in
-    (p.0.0.tables_at.counted, (p.0.1.1, (p.1.1.0, rw c.low_slice.ensures (high-inside (not c.args.falls) p.1.1.1))))
-
-pub high_slice-requires : goal.high_slice-requires
-high_slice-requires c = some-before _ _ c.first_hour.ensures c.if-first_hour.false
-
-pub in_thousandths-requires-2 : goal.in_thousandths-requires-2
-in_thousandths-requires-2 c =
-    let p = c.requires in
-    (p.0.0.tables_at.counted, (p.0.1.1, (p.1.1.0, rw c.high_slice.ensures (high-inside c.args.falls p.1.1.1))))
+pub high_and_low-high-requires : goal.high_and_low-high-requires
+high_and_low-high-requires c = some-before _ _ c.first_hour.ensures c.if-first_hour.false
 
 pub returns : goal.returns
 returns c k part =
-    let p = c.requires in
-    let falls = c.args.falls in
-    let hg = p.1.1.0 in
-    let hs = p.1.1.1 in
+    let hg = c.requires.1.1.0 in
+    let hs = c.requires.1.1.1 in
+    let slices = c.high_and_low-high.ensures in
     let allowed = product_is c.rate_of_capacity-allowed.ensures c.by_plant.ensures.0 refl in
-    let low = part-entry part hg (high-inside (not falls) hs) (rw c.low_slice.ensures at c.in_thousandths.ensures) in
-    let high = part-entry part hg (high-inside falls hs) (rw c.high_slice.ensures at c.in_thousandths-2.ensures) in
-    rw (p.0.0.tables_at.counts, later-hour _ c.first_hour.ensures c.if-first_hour.false)
+    let low = part-entry part hg (omega (arith, hs, slices.within.1)) c.in_thousandths.ensures in
+    let high = part-entry part hg (omega (arith, hs, slices.within.0)) c.in_thousandths-2.ensures in
+    rw (c.args.case.now.tables.laid_out.counts, ← c.args.case.now.same_counts, later-hour _ c.first_hour.ensures c.if-first_hour.false, ← slices.are.0, ← slices.are.1)
     (two-sums _ _ (join_is _ _ c.join.ensures allowed low) high)

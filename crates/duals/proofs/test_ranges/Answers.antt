@@ -1,3 +1,4 @@
+use Rattle.model.specs.Calls.{outcome}
 use mathlib.Core.Path.{refl, sym, ap, ◌∙◌}
 use Prim.Native.Nat.{◌-◌, ◌<◌}
 use native.Mathlib.Omega.{arith}
@@ -5,7 +6,6 @@ use lib.ListN.{length}
 use Rattle.sums.specs.Sum.{sum}
 use Rattle.sums.proofs.Spans.{upto-stop}
 use Rattle.model.specs.Tests.{unless}
-use Rattle.tables.specs.Layout.{outcome}
 use Rattle.tables.proofs.Walk.{begun, turned, ended}
 use Rattle.duals.proofs.Laws.{all-multipliers, start-next, family-row, family-faults, tested}
 use Rattle.duals.proofs.test_ranges.Goals as goal

@@ -1,49 +1,33 @@
-use mathlib.Core.Path.{refl}
+use mathlib.Core.Path.{sym, ◌∙◌}
 use Prim.Native.Nat.{◌-◌}
 use native.Mathlib.Omega.{arith}
 use borrow.Author.Rules.{rules}
 use Rattle.model.specs.Data.{read}
-use Rattle.tables.proofs.Laws.{small}
-use Rattle.parts.proofs.Parts.{places-are, part-asked, part-is}
 use Rattle.energy.proofs.Laws.{few-plants}
 use Rattle.energy_table.proofs.Laws.{season_energy, part-season, fill_none, fill_one, year-end, energies}
 use Rattle.energy_table.proofs.fill_energies.Goals as goal
 
-pub overflow_mul-places : goal.overflow_mul-places
-overflow_mul-places c = small 32 384 tt c.requires.0.counted.few_plants c.slices_of.ensures.1
-
 pub loop-y-init : goal.loop-y-init
-loop-y-init c = (search rules, omega arith, fill_none c.requires.1.1)
-
-pub year_part-outputs-requires : goal.year_part-outputs-requires
-year_part-outputs-requires c =
-    part-asked c.requires.0.counted c.requires.1.0 (omega arith) (places-are c.args.c c.slices_of.ensures.0) 3 (omega arith) refl
+loop-y-init c = (search rules, omega arith, fill_none (search rules))
 
 pub loop-g-init : goal.loop-g-init
 loop-g-init c = (search rules, omega arith, c.loop-y.invariant.2)
 
 pub loop-q-init : goal.loop-q-init
 loop-q-init c =
-    let p = c.requires in
-    (search rules, omega arith, (few-plants p.0.counted c.loop-y-test.true c.loop-g-test.true).1, c.loop-g.invariant.2)
-
-pub season_energy-requires : goal.season_energy-requires
-season_energy-requires c =
-    let part = part-is c.requires.0.counted c.requires.1.0 c.loop-y-test.true (places-are c.args.c c.slices_of.ensures.0) 3 (omega arith) refl c.year_part-outputs.ensures in
-    (c.requires.0, (part.long, (c.loop-g-test.true, c.loop-q-test.true)))
+    (search rules, omega arith, (few-plants c.args.case.now.plan.counted c.loop-y-test.true c.loop-g-test.true).1, c.loop-g.invariant.2)
 
 pub loop-q-preserved : goal.loop-q-preserved
 loop-q-preserved c =
     let i = c.loop-q.invariant in
-    let few = c.requires.0.counted in
+    let case = c.args.case.now in
     let hg = c.loop-g-test.true in
-    let hq = c.loop-q-test.true in
-    let part = part-is few c.requires.1.0 c.loop-y-test.true (places-are c.args.c c.slices_of.ensures.0) 3 (omega arith) refl c.year_part-outputs.ensures in (
+    let hq = c.loop-q-test.true in (
       search rules,
       omega arith,
       i.2,
-      fill_one c.keep.result c.loop-y.y c.loop-g.g c.loop-q.q hg hq i.1 (search rules)
-          (part-season (read c.args.«data».now) few c.requires.0.counts part hg hq c.keep.ensures c.season_energy.ensures) i.3,
+      fill_one c.season_energy.result c.loop-y.y c.loop-g.g c.loop-q.q hg hq i.1 (search rules)
+          (part-season (read case.tables.list.now) case.plan.counted (case.tables.laid_out.counts ∙ sym case.same_counts) c.year_part-outputs.ensures.part hg hq (rw case.same_counts c.season_energy.ensures)) i.3,
     )
 
 pub loop-g-preserved : goal.loop-g-preserved

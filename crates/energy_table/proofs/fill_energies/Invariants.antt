@@ -1,3 +1,4 @@
+use Rattle.capped.specs.Cap.{Sum}
 use mathlib.Core.Path.{◌≡◌}
 use mathlib.Core.List.{List}
 use Prim.Native.Nat.{ℕ, ◌+◌, ◌*◌, ◌-◌, ◌≤◌}
@@ -8,23 +9,23 @@ use Rattle.energy_table.proofs.Laws.{season_energy, Filled}
 use Rattle.energy_table.proofs.fill_energies.Given as goal
 
 -- Each loop keeps the number of the next year, plant and season in `place`, and every number below it filled.
-abbrev pub UpTo : List ℕ → List ℕ → Counts → List (List ℕ) → ℕ → Type 0
+abbrev pub UpTo : List ℕ → List ℕ → Counts → List Sum → ℕ → Type 0
 UpTo «data» plan c energy place = Filled (season_energy (read «data») (plan_entry c plan)) c.plants c.seasons energy place
 
 abbrev pub invariant-loop-q : goal.invariant-loop-q
-invariant-loop-q l = (l.q ≤ l.c.seasons) × (l.place ≡ (l.y * l.c.plants + l.g) * l.c.seasons + l.q) × ((l.y * l.c.plants + l.g) * l.c.seasons ≤ 1276) × UpTo l.«data» l.plan l.c l.energy l.place
+invariant-loop-q l = (l.q ≤ l.case.plan.counts.seasons) × (l.place ≡ (l.y * l.case.plan.counts.plants + l.g) * l.case.plan.counts.seasons + l.q) × ((l.y * l.case.plan.counts.plants + l.g) * l.case.plan.counts.seasons ≤ 1276) × UpTo l.case.tables.list.now l.case.plan.list.now l.case.plan.counts l.energy l.place
 
 abbrev pub decreases-loop-q : goal.decreases-loop-q
-decreases-loop-q l = l.c.seasons - l.q
+decreases-loop-q l = l.case.plan.counts.seasons - l.q
 
 abbrev pub invariant-loop-g : goal.invariant-loop-g
-invariant-loop-g l = (l.g ≤ l.c.plants) × (l.place ≡ (l.y * l.c.plants + l.g) * l.c.seasons) × UpTo l.«data» l.plan l.c l.energy l.place
+invariant-loop-g l = (l.g ≤ l.case.plan.counts.plants) × (l.place ≡ (l.y * l.case.plan.counts.plants + l.g) * l.case.plan.counts.seasons) × UpTo l.case.tables.list.now l.case.plan.list.now l.case.plan.counts l.energy l.place
 
 abbrev pub decreases-loop-g : goal.decreases-loop-g
-decreases-loop-g l = l.c.plants - l.g
+decreases-loop-g l = l.case.plan.counts.plants - l.g
 
 abbrev pub invariant-loop-y : goal.invariant-loop-y
-invariant-loop-y l = (l.y ≤ l.c.years) × (l.place ≡ l.y * l.c.plants * l.c.seasons) × UpTo l.«data» l.plan l.c l.energy l.place
+invariant-loop-y l = (l.y ≤ l.case.plan.counts.years) × (l.place ≡ l.y * l.case.plan.counts.plants * l.case.plan.counts.seasons) × UpTo l.case.tables.list.now l.case.plan.list.now l.case.plan.counts l.energy l.place
 
 abbrev pub decreases-loop-y : goal.decreases-loop-y
-decreases-loop-y l = l.c.years - l.y
+decreases-loop-y l = l.case.plan.counts.years - l.y

@@ -1,11 +1,12 @@
+use Rattle.model.specs.Calls.{outcome}
 use mathlib.Core.Path.{refl, sym, ap, ◌∙◌}
-use Prim.Native.Nat.{◌-◌, ◌<◌}
+use Prim.Native.Nat.{◌<◌}
 use lib.ListN.{length}
 use native.Mathlib.Omega.{arith}
 use Rattle.sums.proofs.Spans.{upto-stop}
 use Rattle.model.specs.Data.{read}
 use Rattle.model.specs.Tests.{unless}
-use Rattle.tables.specs.Layout.{table_sets, outcome}
+use Rattle.tables.specs.Layout.{table_sets}
 use Rattle.tables.proofs.Laws.{start-zero}
 use Rattle.tables.proofs.Walk.{begun, turned, ended}
 use Rattle.entry_tests.proofs.Entries.{all-tables, next-table, box-faults, place-below, tested}
@@ -25,23 +26,19 @@ loop-i-init c = begun c.loop-y.invariant.going c.loop-y.invariant.here
 pub loop-j-init : goal.loop-j-init
 loop-j-init c = begun c.loop-i.invariant.going c.loop-i.invariant.here
 
-pub range_at-r-requires : goal.range_at-r-requires
-range_at-r-requires c =
-    (c.requires, (c.walk-test.true, rw c.table_box-b.ensures.0 at c.loop-i-test.true))
-
 pub loop-s-init : goal.loop-s-init
 loop-s-init c = begun c.loop-j.invariant.going c.loop-j.invariant.here
 
-pub offset_bounds-data-place : goal.offset_bounds-data-place
-offset_bounds-data-place c = let below : c.loop-s.place < length c.args.«data».now = place-below c.requires c.walk-test.true c.table_box-b.ensures.0
+pub offset_bounds-tables-place : goal.offset_bounds-tables-place
+offset_bounds-tables-place c = let below : c.loop-s.place < length c.args.tables.now.list.now = place-below c.args.tables.now.laid_out c.walk-test.true c.table_box-b.ensures.0
     c.loop-y-test.true c.loop-i-test.true c.loop-j-test.true c.loop-s-test.true c.loop-s.invariant.here in omega (arith, below)
 
-pub bounds-data-place : goal.bounds-data-place
-bounds-data-place c = let below : c.loop-s.place < length c.args.«data».now = place-below c.requires c.walk-test.true c.table_box-b.ensures.0
+pub bounds-tables-place : goal.bounds-tables-place
+bounds-tables-place c = let below : c.loop-s.place < length c.args.tables.now.list.now = place-below c.args.tables.now.laid_out c.walk-test.true c.table_box-b.ensures.0
     c.loop-y-test.true c.loop-i-test.true c.loop-j-test.true c.loop-s-test.true c.loop-s.invariant.here in omega (arith, below)
 
 pub overflow_add-place : goal.overflow_add-place
-overflow_add-place c = let below : c.loop-s.place < length c.args.«data».now = place-below c.requires c.walk-test.true c.table_box-b.ensures.0
+overflow_add-place c = let below : c.loop-s.place < length c.args.tables.now.list.now = place-below c.args.tables.now.laid_out c.walk-test.true c.table_box-b.ensures.0
     c.loop-y-test.true c.loop-i-test.true c.loop-j-test.true c.loop-s-test.true c.loop-s.invariant.here in omega (arith, below)
 
 pub loop-s-preserved : goal.loop-s-preserved
@@ -49,7 +46,7 @@ unfolding unless
 loop-s-preserved c =
     let v = c.loop-s in
     let entry =
-    tested c.requires c.walk-test.true c.table_box-b.ensures.0
+    tested c.args.tables.now.laid_out c.walk-test.true c.table_box-b.ensures.0
     c.loop-y-test.true c.loop-i-test.true c.loop-j-test.true c.loop-s-test.true v.invariant.here
     (c.range_at-r.ensures c.loop-y.y v.s) c.in_range.ensures in
     turned v.invariant c.loop-s-test.true v.invariant.going (entry ∙ rw (c.if-not-in_range.false)) (omega (arith, v.invariant.here))
@@ -77,26 +74,26 @@ walk-preserved c =
     let i = c.loop-y in
     let e = ended i.invariant c.loop-y-test.false in
     turned c.walk.invariant c.walk-test.true i.invariant.going
-    (box-faults c.requires c.walk-test.true c.table_box-b.ensures.0 ∙ e.0)
-    (e.1 ∙ next-table c.requires c.walk-test.true c.table_box-b.ensures.0)
+    (box-faults c.args.tables.now.laid_out c.walk-test.true c.table_box-b.ensures.0 ∙ e.0)
+    (e.1 ∙ next-table c.args.tables.now.laid_out c.walk-test.true c.table_box-b.ensures.0)
 
 pub returns-after-walk : goal.returns-after-walk
 returns-after-walk c =
     let w = c.walk in
-    w.invariant.going ∙ sym (ap outcome (all-tables (read c.args.«data».now) ∙ (ended w.invariant c.walk-test.false).0))
+    w.invariant.going ∙ sym (ap outcome (all-tables (read c.args.tables.now.list.now) ∙ (ended w.invariant c.walk-test.false).0))
 
 pub returns-then-not-in_range : goal.returns-then-not-in_range
 unfolding unless
 returns-then-not-in_range c =
     let v = c.loop-s in
     let entry =
-    tested c.requires c.walk-test.true c.table_box-b.ensures.0
+    tested c.args.tables.now.laid_out c.walk-test.true c.table_box-b.ensures.0
     c.loop-y-test.true c.loop-i-test.true c.loop-j-test.true c.loop-s-test.true v.invariant.here
     (c.range_at-r.ensures c.loop-y.y v.s) c.in_range.ensures in
     sym (ap outcome
-    (all-tables (read c.args.«data».now)
+    (all-tables (read c.args.tables.now.list.now)
     ∙ upto-stop _ _ _ c.walk-test.true c.walk.invariant.so
-    (box-faults c.requires c.walk-test.true c.table_box-b.ensures.0
+    (box-faults c.args.tables.now.laid_out c.walk-test.true c.table_box-b.ensures.0
     ∙ upto-stop _ _ _ c.loop-y-test.true c.loop-y.invariant.so
     (upto-stop _ _ _ c.loop-i-test.true c.loop-i.invariant.so
     (upto-stop _ _ _ c.loop-j-test.true c.loop-j.invariant.so

@@ -5,7 +5,7 @@ use Rattle.epm.proofs.price.Goals as goal
 pub test_rows-requires : goal.test_rows-requires
 test_rows-requires c =
     let p = c.requires in
-    (p.0, (sound-entries _ p.1.0, (p.1.1, c.fill_energies.ensures)))
+    (c.args.case.now.tables.laid_out, (sound-entries _ c.requires, (c.args.case.now.plan.laid_out, c.fill_energies.ensures)))
 
 pub returns-in-Fails : goal.returns-in-Fails
 returns-in-Fails c = rows-refused _ _ _ c.test_rows.ensures c.in-Fails.is

@@ -8,16 +8,16 @@ use Rattle.figures.proofs.priced_at.Goals as goal
 pub unit_price-unit-requires : goal.unit_price-unit-requires
 unit_price-unit-requires c =
     let p = c.requires in
-    let own = column-inside _ p.1 in (p.0.tables_at, (own.0, (year-inside p.0.tables_at.counted own.1, (own.1.first, own.1.second))))
+    let own = column-inside _ c.requires in (c.args.pricing.now.tables_at, (own.0, (year-inside c.args.pricing.now.tables_at.counted own.1, (own.1.first, own.1.second))))
 
 pub hours_of-hours-requires : goal.hours_of-hours-requires
 hours_of-hours-requires c =
     let p = c.requires in
-    let own = column-inside _ p.1 in (p.0.tables_at, (own.0, own.1.slice))
+    let own = column-inside _ c.requires in (c.args.pricing.now.tables_at, (own.0, own.1.slice))
 
 pub returns : goal.returns
 returns c =
-    let D = read c.args.«data».now in
+    let D = read c.args.pricing.now.tested.tables.now.list.now in
     let p = c.args.p in
-    column-told D c.args.ms.now (index_of p) c.column_sums-sums.ensures
-    (column-price D p (column-inside _ c.requires.1).0 c.unit_price-unit.ensures c.hours_of-hours.ensures c.scale.ensures) c.told_pair.ensures
+    column-told D c.args.pricing.now.multipliers.list.now (index_of p) c.column_sums-sums.ensures
+    (column-price D p (column-inside _ c.requires).0 c.unit_price-unit.ensures c.hours_of-hours.ensures c.scale.ensures) c.told_pair.ensures

@@ -9,7 +9,7 @@ pub returns-then-y-ne0 : goal.returns-then-y-ne0
 unfolding constant_of
 returns-then-y-ne0 c =
     let a = c.args in
-    let D = read a.«data».now in rw (ne_eqb _ 0 c.if-y-ne0.true) (constant-is refl (off-both (existing D a.g) (gen_cap D a.g)))
+    let D = read a.tables.now.list.now in rw (ne_eqb _ 0 c.if-y-ne0.true) (constant-is refl (off-both (existing D a.g) (gen_cap D a.g)))
 
 pub returns-then-by_plant-ne0 : goal.returns-then-by_plant-ne0
 unfolding constant_of

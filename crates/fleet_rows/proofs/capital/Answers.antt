@@ -6,5 +6,5 @@ use Rattle.fleet_rows.proofs.capital.Goals as goal
 pub returns : goal.returns
 unfolding sides_of constant_of
 returns c =
-    let n = c.requires.0.counts in
-    rw n (limit _ _ c.at_most.ensures c.capital_constant.ensures c.capital_sum.ensures)
+    let n = c.args.case.now.tables.laid_out.counts in
+    rw (n, ← c.args.case.now.same_counts) (limit _ _ c.at_most.ensures c.capital_constant.ensures c.capital_sum.ensures)

@@ -11,7 +11,7 @@ unfolding sides_of
 returns-then-by_plant-ne0 c N =
     rw (flag_off 0 c.by_plant.ensures.0 c.if-by_plant-ne0.true)
     (plain N _ _
-    (two-sums _ _ c.zero.ensures (nothing-plus _ (product_is c.product.ensures refl c.planned_by_year_plant-retire.ensures.0))))
+    (two-sums _ _ c.zero.ensures (nothing-plus _ (product_is c.product.ensures refl c.by_year_plant-retire.ensures.0))))
 
 pub returns : goal.returns
 unfolding sides_of
@@ -21,4 +21,4 @@ returns c N =
     (plain N _ _
     (two-sums _ _ c.zero-2.ensures
     (plus-if-is (eqb y 0) _ 1 c.add_product_if.ensures
-    (product_is c.product-build.ensures refl c.planned_by_year_plant.ensures.0) c.planned_by_year_plant-retire.ensures.0)))
+    (product_is c.product-build.ensures refl c.by_year_plant.ensures.0) c.by_year_plant-retire.ensures.0)))

@@ -9,6 +9,5 @@ use Rattle.fleet_rows.proofs.fuel_use.Goals as goal
 pub returns : goal.returns
 unfolding sides_of constant_of fuel_use
 returns c x n =
-    let p = c.requires in
     limit _ _ c.at_most.ensures c.fuel_use_constant.ensures
-    (c.burned.ensures ∙ rw (c.long.ensures, c.long-2.ensures) (fuel-energy n p.0.0.counts p.1.0 _ _))
+    (c.burned.ensures ∙ fuel-energy n c.args.tables.now.laid_out.counts c.requires.0 _ _)

@@ -3,7 +3,7 @@ use Rattle.fleet_rows.proofs.Laws.{existing-serves, candidate-serves}
 use Rattle.fleet_rows.proofs.in_service.Goals as goal
 
 pub returns-then-kind-eq0 : goal.returns-then-kind-eq0
-returns-then-kind-eq0 c = let a = c.args in rw c.long-this_year.ensures (existing-serves a.kind a.year (a.y + 1) c.if-kind-eq0.true)
+returns-then-kind-eq0 c = let a = c.args in existing-serves a.kind a.year (a.y + 1) c.if-kind-eq0.true
 
 pub returns : goal.returns
-returns c = let a = c.args in rw c.long-this_year.ensures (candidate-serves a.kind a.year (a.y + 1) c.if-kind-eq0.false)
+returns c = let a = c.args in candidate-serves a.kind a.year (a.y + 1) c.if-kind-eq0.false

@@ -15,4 +15,4 @@ pub returns : goal.returns
 unfolding sides_of
 returns c N =
     rw (idle (c.args.y + 1) c.in_service.ensures c.by_plant.ensures.0 c.by_plant-2.ensures.0 c.if-in_service.false)
-    (plain N _ _ (two-sums _ _ c.zero.ensures (product_is c.product.ensures refl c.planned_by_year_plant.ensures.0)))
+    (plain N _ _ (two-sums _ _ c.zero.ensures (product_is c.product.ensures refl c.by_year_plant.ensures.0)))

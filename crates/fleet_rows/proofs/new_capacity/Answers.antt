@@ -12,5 +12,5 @@ pub returns : goal.returns
 unfolding sides_of constant_of
 returns c =
     let f = flag_off 0 c.by_plant.ensures.0 c.if-by_plant-eq0.false in
-    rw (c.requires.0.0.counts, f)
+    rw (c.args.case.now.tables.laid_out.counts, ← c.args.case.now.same_counts, f)
     (limit _ _ c.at_most.ensures (rw f at c.new_capacity_constant.ensures) c.over_years.ensures)

@@ -15,8 +15,8 @@ unfolding sides_of
 returns-then-by_plant-ne0 c =
     rw (flag_off 0 c.by_plant.ensures.0 c.if-by_plant-ne0.true)
     (plain _ _ _
-    (two-sums _ _ (plus-nothing _ (product_is c.product-own.ensures refl c.planned_by_year_plant.ensures.0))
-    (plus-is _ c.add_product.ensures c.earlier-before.ensures refl c.planned_by_year_plant-then-by_plant-ne0.ensures.0)))
+    (two-sums _ _ (plus-nothing _ (product_is c.product-own.ensures refl c.by_year_plant.ensures.0))
+    (plus-is _ c.add_product.ensures c.earlier-before.ensures refl c.by_year_plant-then-by_plant-ne0.ensures.0)))
 
 pub returns-then-y-eq0 : goal.returns-then-y-eq0
 unfolding sides_of constant_of
@@ -27,7 +27,7 @@ returns-then-y-eq0 c =
     let l : ltb 0 y ≡ false = le-ltb 0 y (omega (arith, c.if-y-eq0.true)) in
     rw (f, e, l)
     (constant _ _ _ c.with_constant.ensures (rw (f, e) at c.stock_constant.ensures)
-    (plus-nothing _ (product_is c.product-own.ensures refl c.planned_by_year_plant.ensures.0)) (c.earlier-before.ensures ∙ rw l))
+    (plus-nothing _ (product_is c.product-own.ensures refl c.by_year_plant.ensures.0)) (c.earlier-before.ensures ∙ rw l))
 
 pub returns : goal.returns
 unfolding sides_of
@@ -38,5 +38,5 @@ returns c =
     rw (flag-on 0 c.by_plant.ensures.0 c.if-by_plant-ne0.false, e, l)
     (plain _ _ _
     (two-sums _ _
-    (plus-is _ c.add_product-2.ensures (product_is c.product-own.ensures refl c.planned_by_year_plant.ensures.0) refl c.planned_by_year_plant-2.ensures.0)
+    (plus-is _ c.add_product-2.ensures (product_is c.product-own.ensures refl c.by_year_plant.ensures.0) refl c.by_year_plant-2.ensures.0)
     (plus-nothing _ (c.earlier-before.ensures ∙ rw l))))

@@ -9,5 +9,4 @@ use Rattle.fleet_rows.proofs.system_emission.Goals as goal
 pub returns : goal.returns
 unfolding sides_of constant_of system_emission
 returns c x n =
-    let p = c.requires in
-    limit _ _ c.at_most.ensures c.system_emission_constant.ensures (c.emitted.ensures ∙ system-energy n p.0.0.counts p.1)
+    limit _ _ c.at_most.ensures c.system_emission_constant.ensures (c.emitted.ensures ∙ system-energy n c.args.tables.now.laid_out.counts c.requires)

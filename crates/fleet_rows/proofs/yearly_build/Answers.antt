@@ -15,4 +15,4 @@ returns c =
     let f = flag_off 0 c.by_plant.ensures.0 c.if-by_plant-eq0.false in
     rw f
     (limit _ _ c.at_most.ensures (rw f at c.yearly_build_constant.ensures)
-    (product_is c.product.ensures refl c.planned_by_year_plant.ensures.0))
+    (product_is c.product.ensures refl c.by_year_plant.ensures.0))

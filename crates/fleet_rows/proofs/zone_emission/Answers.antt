@@ -9,6 +9,5 @@ use Rattle.fleet_rows.proofs.zone_emission.Goals as goal
 pub returns : goal.returns
 unfolding sides_of constant_of zone_emission
 returns c x n =
-    let p = c.requires in
     limit _ _ c.at_most.ensures c.zone_emission_constant.ensures
-    (c.emitted_in.ensures ∙ rw c.long.ensures (zone-energy n p.0.0.counts p.1.0 _))
+    (c.emitted_in.ensures ∙ zone-energy n c.args.tables.now.laid_out.counts c.requires.0 _)

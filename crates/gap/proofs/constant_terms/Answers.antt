@@ -9,7 +9,7 @@ pub loop-k-init : goal.loop-k-init
 loop-k-init c = begin
 
 pub walked_box-b-requires : goal.walked_box-b-requires
-walked_box-b-requires c = (c.requires.0.counted, c.loop-k-test.true)
+walked_box-b-requires c = (c.args.pricing.now.tested.tables.now.laid_out.counted, c.loop-k-test.true)
 
 pub loop-y-init : goal.loop-y-init
 loop-y-init c = begin
@@ -25,10 +25,9 @@ loop-s-init c = begin
 
 pub add_term-t-requires : goal.add_term-t-requires
 add_term-t-requires c =
-    let p = c.requires in
     let k = c.loop-k-test.true in
     let m = walked-member _ _ c.walked_box-b.ensures k c.loop-y-test.true c.loop-i-test.true c.loop-j-test.true c.loop-s-test.true in
-    (p.0, (p.1.0, (p.1.1, m)))
+    (c.args.pricing.now.tested.tables.now.laid_out, (c.args.pricing.now.tested.tested, (c.args.pricing.now.multipliers.laid_out, m)))
 
 pub loop-s-preserved : goal.loop-s-preserved
 unfolding with_term
@@ -55,5 +54,4 @@ loop-k-preserved c =
 
 pub returns : goal.returns
 returns c =
-    let p = c.requires in
-    all-terms _ _ p.0.counts (rw (c.zero.ensures, c.zero-2.ensures)) c.loop-k.invariant c.loop-k-test.false
+    all-terms _ _ c.args.pricing.now.tested.tables.now.laid_out.counts (rw (c.zero.ensures, c.zero-2.ensures)) c.loop-k.invariant c.loop-k-test.false

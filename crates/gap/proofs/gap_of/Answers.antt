@@ -7,4 +7,4 @@ pub returns : goal.returns
 unfolding terms_of
 returns c =
     let t = c.constant_terms-t.ensures in
-    c.certificate_of.ensures ∙ certified _ _ _ _ c.requires.1.1.1 (c.scale.ensures ∙ rw t) (c.scale-2.ensures ∙ rw t)
+    c.certificate_of.ensures ∙ certified _ _ _ _ c.requires (c.scale.ensures ∙ rw t) (c.scale-2.ensures ∙ rw t)

@@ -1,5 +1,4 @@
 use mathlib.Core.Path.{◌∙◌}
-use Prim.Native.Nat.{◌-◌}
 use Rattle.capped.proofs.Laws.{plus-cap}
 use Rattle.terms.proofs.Laws.{summed-none, summed-more, summed-all}
 use Rattle.hour_costs.proofs.weighted_hours.Goals as goal
@@ -14,4 +13,4 @@ loop-s-preserved c =
     (c.add_product-total.ensures ∙ rw (h.is, c.by_slice.ensures.0, c.wide.ensures.0, plus-cap))
 
 pub returns : goal.returns
-returns c = rw (← c.requires.1) (summed-all c.loop-s.invariant c.loop-s-test.false)
+returns c = rw (← c.requires) (summed-all c.loop-s.invariant c.loop-s-test.false)

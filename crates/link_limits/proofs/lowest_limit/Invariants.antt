@@ -4,7 +4,7 @@ use Rattle.link_limits.proofs.Laws.{Lowest}
 use Rattle.link_limits.proofs.lowest_limit.Given as goal
 
 abbrev pub invariant-loop-q : goal.invariant-loop-q
-invariant-loop-q l = Lowest l.c.seasons most32 (λ q. tl (read l.«data») l.y l.u l.z q) l.q l.lowest
+invariant-loop-q l = Lowest l.tables.counts.seasons most32 (λ q. tl (read l.tables.list.now) l.y l.u l.z q) l.q l.lowest
 
 abbrev pub decreases-loop-q : goal.decreases-loop-q
-decreases-loop-q l = l.c.seasons - l.q
+decreases-loop-q l = l.tables.counts.seasons - l.q

@@ -7,7 +7,7 @@ use Rattle.terms.proofs.Laws.{Added}
 use Rattle.link_limits.proofs.lowest_limits_into.Given as goal
 
 abbrev pub invariant-loop-u : goal.invariant-loop-u
-invariant-loop-u l = Added l.c.zones most32 (λ u. on (not (eqb u l.z)) (least l.c.seasons (λ q. tl (read l.«data») l.y u l.z q))) l.u l.total
+invariant-loop-u l = Added l.tables.counts.zones most32 (λ u. on (not (eqb u l.z)) (least l.tables.counts.seasons (λ q. tl (read l.tables.list.now) l.y u l.z q))) l.u l.total
 
 abbrev pub decreases-loop-u : goal.decreases-loop-u
-decreases-loop-u l = l.c.zones - l.u
+decreases-loop-u l = l.tables.counts.zones - l.u

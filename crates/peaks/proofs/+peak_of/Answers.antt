@@ -12,4 +12,4 @@ returns-then-demand-eq1 t c = peak-one c.args.demand.now c.if-demand-eq1.true
 pub returns : goal.returns
 returns t c =
     let l = c.args.demand.now in
-    peak-halves (length l / 2) l c.larger.ensures c.peak_of-earlier.ensures c.peak_of-later.ensures
+    peak-halves (length l / 2) l c.max.ensures c.peak_of-earlier.ensures c.peak_of-later.ensures

@@ -10,7 +10,7 @@ pub walk-init : goal.walk-init
 walk-init c = walked_none refl refl
 
 pub column_box-b-requires : goal.column_box-b-requires
-column_box-b-requires c = (c.requires.tables_at.counted, c.walk-test.true)
+column_box-b-requires c = (c.args.pricing.now.tables_at.counted, c.walk-test.true)
 
 pub loop-y-init : goal.loop-y-init
 loop-y-init c = none c.walk.invariant.accepted
@@ -23,7 +23,7 @@ loop-j-init c = none c.loop-i.invariant.accepted
 
 pub unit_price-unit-requires : goal.unit_price-unit-requires
 unit_price-unit-requires c =
-    let p = c.requires in
+    let p = c.args.pricing.now in
     let l = c.walk-test.true in
     let b = c.column_box-b.ensures.0 in
     let hy = year-below _ l b p.tables_at.counted c.loop-y-test.true in
@@ -34,7 +34,7 @@ loop-s-init c = none c.loop-j.invariant.accepted
 
 pub test_column-requires : goal.test_column-requires
 test_column-requires c =
-    let p = c.requires in
+    let p = c.args.pricing.now in
     let l = c.walk-test.true in
     let b = c.column_box-b.ensures.0 in
     let hy = c.loop-y-test.true in
@@ -76,7 +76,7 @@ walk-preserved c =
     walked_more c.walk.invariant (table_below _ l) (box-is _ l b.0) b.1 c.loop-y.invariant c.loop-y-test.false
 
 pub returns-after-walk : goal.returns-after-walk
-returns-after-walk c = c.walk.invariant.accepted ∙ answered _ _ c.requires.tables_at.counts (walked_all c.walk.invariant (tables_end _ c.walk-test.false))
+returns-after-walk c = c.walk.invariant.accepted ∙ answered _ _ c.args.pricing.now.tables_at.counts (walked_all c.walk.invariant (tables_end _ c.walk-test.false))
 
 pub returns-in-Fails : goal.returns-in-Fails
 returns-in-Fails c =
@@ -87,5 +87,5 @@ returns-in-Fails c =
     let hs = c.loop-s-test.true in
     let b = box-is _ l c.column_box-b.ensures.0 in
     let broken = outcome-fails _ c.test_column.ensures c.in-Fails.is in
-    answered _ _ c.requires.tables_at.counts
+    answered _ _ c.args.pricing.now.tables_at.counts
     (stopped c.walk.invariant (table_below _ l) b c.loop-y.invariant hy c.loop-i.invariant hi c.loop-j.invariant hj c.loop-s.invariant hs broken)

@@ -8,6 +8,5 @@ use Rattle.row_tests.proofs.test_row.Goals as goal
 pub returns : goal.returns
 returns c =
     let a = c.args in
-    let p = c.requires in
-    c.verdict.ensures ∙ verdict-is _ _ _ (index_of a.p) c.row_sides-sides.ensures p.1.1.1.0
-    (p.1.1.1.1 ∙ ap (λ (c : Counts). number (row_boxes c) (index_of a.p)) (sym p.0.tables_at.counts))
+    c.verdict.ensures ∙ verdict-is _ _ _ (index_of a.p) c.row_sides-sides.ensures c.requires.1.1.1.0
+    (c.requires.1.1.1.1 ∙ ap (λ (c : Counts). number (row_boxes c) (index_of a.p)) (sym c.requires.0.tables_at.counts))

@@ -12,10 +12,10 @@ use Rattle.row_tests.proofs.Steps.{box-is, inside_is, year-below, family-below, 
 use Rattle.row_tests.proofs.test_rows.Goals as goal
 
 pub slices_of-requires : goal.slices_of-requires
-slices_of-requires c = c.requires.0.counted
+slices_of-requires c = c.args.case.now.tables.laid_out.counted
 
 pub overflow_mul-places : goal.overflow_mul-places
-overflow_mul-places c = small 32 384 tt c.requires.0.counted.few_plants c.slices_of.ensures.1
+overflow_mul-places c = small 32 384 tt c.args.case.now.tables.laid_out.counted.few_plants c.slices_of.ensures.1
 
 pub walk-init : goal.walk-init
 walk-init c = walked_none refl refl
@@ -24,34 +24,30 @@ pub family_at-f-requires : goal.family_at-f-requires
 family_at-f-requires c = c.walk-test.true
 
 pub box_of-b-requires : goal.box_of-b-requires
-box_of-b-requires c = c.requires.0.counted
+box_of-b-requires c = c.args.case.now.tables.laid_out.counted
 
 pub loop-y-init : goal.loop-y-init
 loop-y-init c = none c.walk.invariant.accepted
 
 pub year_part-outputs-requires : goal.year_part-outputs-requires
 year_part-outputs-requires c =
-    let p = c.requires in
-    let hy = year-below _ c.walk-test.true c.family_at-f.ensures c.box_of-b.ensures.0 p.0.counted c.loop-y-test.true in
-    part-asked p.0.counted p.1.1.0 hy (places-are c.args.c c.slices_of.ensures.0) gen_kind (omega arith) refl
+    let hy = year-below _ c.walk-test.true c.family_at-f.ensures c.box_of-b.ensures.0 c.args.case.now.tables.laid_out.counted c.loop-y-test.true in
+    part-asked c.args.case.now.tables.laid_out.counted c.args.case.now.plan.laid_out hy (places-are c.args.case.now.plan.counts c.slices_of.ensures.0) gen_kind (omega arith) refl
 
 pub year_part-reserves-requires : goal.year_part-reserves-requires
 year_part-reserves-requires c =
-    let p = c.requires in
-    let hy = year-below _ c.walk-test.true c.family_at-f.ensures c.box_of-b.ensures.0 p.0.counted c.loop-y-test.true in
-    part-asked p.0.counted p.1.1.0 hy (places-are c.args.c c.slices_of.ensures.0) reserve_kind (omega arith) refl
+    let hy = year-below _ c.walk-test.true c.family_at-f.ensures c.box_of-b.ensures.0 c.args.case.now.tables.laid_out.counted c.loop-y-test.true in
+    part-asked c.args.case.now.tables.laid_out.counted c.args.case.now.plan.laid_out hy (places-are c.args.case.now.plan.counts c.slices_of.ensures.0) reserve_kind (omega arith) refl
 
 pub year_part-charges-requires : goal.year_part-charges-requires
 year_part-charges-requires c =
-    let p = c.requires in
-    let hy = year-below _ c.walk-test.true c.family_at-f.ensures c.box_of-b.ensures.0 p.0.counted c.loop-y-test.true in
-    part-asked p.0.counted p.1.1.0 hy (places-are c.args.c c.slices_of.ensures.0) charge_kind (omega arith) refl
+    let hy = year-below _ c.walk-test.true c.family_at-f.ensures c.box_of-b.ensures.0 c.args.case.now.tables.laid_out.counted c.loop-y-test.true in
+    part-asked c.args.case.now.tables.laid_out.counted c.args.case.now.plan.laid_out hy (places-are c.args.case.now.plan.counts c.slices_of.ensures.0) charge_kind (omega arith) refl
 
 pub year_part-levels-requires : goal.year_part-levels-requires
 year_part-levels-requires c =
-    let p = c.requires in
-    let hy = year-below _ c.walk-test.true c.family_at-f.ensures c.box_of-b.ensures.0 p.0.counted c.loop-y-test.true in
-    part-asked p.0.counted p.1.1.0 hy (places-are c.args.c c.slices_of.ensures.0) level_kind (omega arith) refl
+    let hy = year-below _ c.walk-test.true c.family_at-f.ensures c.box_of-b.ensures.0 c.args.case.now.tables.laid_out.counted c.loop-y-test.true in
+    part-asked c.args.case.now.tables.laid_out.counted c.args.case.now.plan.laid_out hy (places-are c.args.case.now.plan.counts c.slices_of.ensures.0) level_kind (omega arith) refl
 
 pub loop-i-init : goal.loop-i-init
 loop-i-init c = none c.loop-y.invariant.accepted
@@ -72,8 +68,8 @@ test_row-requires c =
     let hi = c.loop-i-test.true in
     let hj = c.loop-j-test.true in
     let hs = c.loop-s-test.true in
-    let y = year-below _ l f b p.0.counted hy in
-    let parts = ready p y (places-are c.args.c c.slices_of.ensures.0) c.year_part-outputs.ensures c.year_part-reserves.ensures c.year_part-charges.ensures c.year_part-levels.ensures in
+    let y = year-below _ l f b c.args.case.now.tables.laid_out.counted hy in
+    let parts = ready p y (places-are c.args.case.now.plan.counts c.slices_of.ensures.0) c.year_part-outputs.ensures c.year_part-reserves.ensures c.year_part-charges.ensures c.year_part-levels.ensures in
     let number = member-number c.walk.invariant (family-below _ l) (box-is _ l f b) c.loop-y.invariant hy c.loop-i.invariant hi c.loop-j.invariant hj c.loop-s.invariant hs in
     (parts, (l, (inside_is _ l f b hy hi hj hs, (ap (λ (r : Family). r.equal) f, number))))
 
@@ -115,7 +111,7 @@ walk-preserved c =
 
 pub returns-after-walk : goal.returns-after-walk
 returns-after-walk c =
-    c.walk.invariant.accepted ∙ answered _ _ _ c.requires.0.counts (walked_all c.walk.invariant (families-end _ c.walk-test.false))
+    c.walk.invariant.accepted ∙ answered _ _ _ c.args.case.now.tables.laid_out.counts (walked_all c.walk.invariant (families-end _ c.walk-test.false))
 
 pub returns-in-Fails : goal.returns-in-Fails
 returns-in-Fails c =
@@ -126,4 +122,4 @@ returns-in-Fails c =
     let hs = c.loop-s-test.true in
     let b = box-is _ l c.family_at-f.ensures c.box_of-b.ensures.0 in
     let broken = outcome-fails _ c.test_row.ensures c.in-Fails.is in
-    answered _ _ _ c.requires.0.counts (stopped c.walk.invariant (family-below _ l) b c.loop-y.invariant hy c.loop-i.invariant hi c.loop-j.invariant hj c.loop-s.invariant hs broken)
+    answered _ _ _ c.args.case.now.tables.laid_out.counts (stopped c.walk.invariant (family-below _ l) b c.loop-y.invariant hy c.loop-i.invariant hi c.loop-j.invariant hj c.loop-s.invariant hs broken)

@@ -119,8 +119,7 @@ new_lines-requires c = let m = inside-at _ c.in-26.is c.requires.1.1 in (search 
 pub lines_both_ways-requires : goal.lines_both_ways-requires
 unfolding family_of
 lines_both_ways-requires c =
-    let p = c.requires in
-    let m = inside-at _ (last_arm (family_count - 1) p.1.0 c.in_default.in_default-own.rest) p.1.1 in (search rules, search rules)
+    let m = inside-at _ (last_arm (family_count - 1) c.requires.1.0 c.in_default.in_default-own.rest) c.requires.1.1 in (search rules, search rules)
 
 pub returns-in-0 : goal.returns-in-0
 unfolding sides_of
@@ -149,14 +148,12 @@ returns-in-5 c = rw c.in-5.is (c.offer.ensures _)
 pub returns-in-6 : goal.returns-in-6
 unfolding sides_of
 returns-in-6 c =
-    let p = c.requires in
-    rw c.in-6.is (plain-under _ _ _ _ (c.ramp.ensures _ p.0.outputs))
+    rw c.in-6.is (plain-under _ _ _ _ (c.ramp.ensures _ c.requires.0.outputs))
 
 pub returns-in-7 : goal.returns-in-7
 unfolding sides_of
 returns-in-7 c =
-    let p = c.requires in
-    rw c.in-7.is (plain-under _ _ _ _ (c.ramp-in-7.ensures _ p.0.outputs))
+    rw c.in-7.is (plain-under _ _ _ _ (c.ramp-in-7.ensures _ c.requires.0.outputs))
 
 pub returns-in-8 : goal.returns-in-8
 unfolding sides_of
@@ -230,7 +227,7 @@ returns-in-24 c = rw c.in-24.is (c.level_limit.ensures _ c.requires.0.levels)
 
 pub returns-in-25 : goal.returns-in-25
 unfolding sides_of
-returns-in-25 c = rw c.in-25.is (c.line_balance.ensures (read c.args.«data».now) _)
+returns-in-25 c = rw c.in-25.is (c.line_balance.ensures (read c.args.case.now.tables.list.now) _)
 
 pub returns-in-26 : goal.returns-in-26
 unfolding sides_of
@@ -239,4 +236,4 @@ returns-in-26 c = rw c.in-26.is c.new_lines.ensures
 pub returns-in_default : goal.returns-in_default
 unfolding sides_of
 returns-in_default c =
-    rw (last_arm (family_count - 1) c.requires.1.0 c.in_default.in_default-own.rest) (c.lines_both_ways.ensures (read c.args.«data».now) _)
+    rw (last_arm (family_count - 1) c.requires.1.0 c.in_default.in_default-own.rest) (c.lines_both_ways.ensures (read c.args.case.now.tables.list.now) _)

@@ -7,6 +7,5 @@ use Rattle.storage_rows.proofs.level_limit.Goals as goal
 pub returns : goal.returns
 unfolding sides_of constant_of
 returns c plan part =
-    let p = c.requires in
     limit _ _ c.at_most.ensures c.level_limit_constant.ensures
-    (product_is c.product.ensures refl (part-value part p.1.0 p.1.1 c.part_at.ensures.0))
+    (product_is c.product.ensures refl (part-value part c.requires.1.0 c.requires.1.1 c.part_at.ensures.0))

@@ -5,15 +5,15 @@ use borrow.Author.Rules.{rules}
 use Rattle.unit_prices.proofs.hour_price.Goals as goal
 
 pub by_year_plant-requires : goal.by_year_plant-requires
-by_year_plant-requires c = let l = rw c.in-3.is at c.requires.1.1.1 in search rules
+by_year_plant-requires c = let l = rw c.in-3.is at c.requires.1.1 in search rules
 
 pub by_plant-emission-requires : goal.by_plant-emission-requires
 by_plant-emission-requires c =
-    let l = rw c.in-3.is at c.requires.1.1.1 in
+    let l = rw c.in-3.is at c.requires.1.1 in
     search rules
 
 pub by_plant-requires : goal.by_plant-requires
-by_plant-requires c = let l = rw c.in-4.is at c.requires.1.1.1 in search rules
+by_plant-requires c = let l = rw c.in-4.is at c.requires.1.1 in search rules
 
 pub returns-in-3 : goal.returns-in-3
 returns-in-3 c =
@@ -36,5 +36,5 @@ pub returns-in_default : goal.returns-in_default
 unfolding hour_price
 returns-in_default c =
     let r = c.in_default.in_default-own.rest in
-    let e = last-table c.requires.1.0 r.0.0.0.1 r.0.0.1 r.0.1 r.1 in
+    let e = last-table c.requires.0 r.0.0.0.1 r.0.0.1 r.0.1 r.1 in
     c.of-in_default.ensures ∙ rw (c.single-in_default.ensures.0, e)

@@ -11,5 +11,5 @@ overflow_mul-result-2 c = small 5000 0xffff_ffff tt (search rules) c.zone_peak-p
 pub returns : goal.returns
 unfolding constant_of
 returns c =
-    constant-is (times-is refl (rw c.requires.0.counts c.lowest_limits_into-links.ensures.0))
+    constant-is (times-is refl (rw c.args.tested.now.tables.now.laid_out.counts c.lowest_limits_into-links.ensures.0))
     (times-is c.rates_of-rates.ensures.of_margin c.zone_peak-peak.ensures.0)

@@ -12,6 +12,6 @@ returns c =
     record {
       of_ee = ee.0;
       of_margin = ap (λ (v : ℕ). 1000 + v) prm.0;
-      few_ee = omega (arith, ee.0, few-ee p.0 p.1.0 p.1.1.1 p.1.1.0);
-      few_margin = omega (arith, prm.0, few-prm p.0 p.1.0 p.1.1.1);
+      few_ee = omega (arith, ee.0, few-ee c.args.tested.now.tables.now.laid_out c.args.tested.now.tested c.requires.1 c.requires.0);
+      few_margin = omega (arith, prm.0, few-prm c.args.tested.now.tables.now.laid_out c.args.tested.now.tested c.requires.1);
     }

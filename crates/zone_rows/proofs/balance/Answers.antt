@@ -1,23 +1,12 @@
 use Rattle.constants.specs.Constants.{constant_of}
 use Rattle.row_sums.specs.Ready.{sides_of}
 use Rattle.row_sums.proofs.Laws.{constant}
-use borrow.Author.Rules.{rules}
 use Rattle.zone_rows.proofs.balance.Goals as goal
-
-pub in_zone-above-requires : goal.in_zone-above-requires
-in_zone-above-requires c = let p = c.requires in ((p.0.0, (search rules, p.0.1.1.1.0.long)), p.1.1.1)
-
-pub in_zone-below-requires : goal.in_zone-below-requires
-in_zone-below-requires c = let p = c.requires in ((p.0.0, (search rules, p.0.1.1.1.1.long)), p.1.1.1)
-
-pub balance_constant-requires : goal.balance_constant-requires
-balance_constant-requires c = let p = c.requires in search rules
 
 pub returns : goal.returns
 unfolding sides_of constant_of
 returns c =
-    let p = c.requires in
-    rw p.0.0.counts
+    rw (c.args.case.now.tables.laid_out.counts, ← c.args.case.now.same_counts)
     (constant _ _ _ c.with_constant.ensures c.balance_constant.ensures
-    (c.in_zone-above.ensures _ _ p.0.1.1.1.0 c.received-arrived.ensures)
-    (c.in_zone-below.ensures _ _ p.0.1.1.1.1 c.flows-sent.ensures))
+    (c.in_zone-above.ensures _ _ c.requires.0.1.0 c.received-arrived.ensures)
+    (c.in_zone-below.ensures _ _ c.requires.0.1.1 c.flows-sent.ensures))

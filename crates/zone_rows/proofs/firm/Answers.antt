@@ -7,7 +7,7 @@ use Rattle.zone_rows.proofs.firm.Goals as goal
 pub returns : goal.returns
 unfolding sides_of constant_of
 returns c =
-    let n = c.requires.0.0.counts in
-    rw n
+    let n = c.args.case.now.tables.laid_out.counts in
+    rw (n, ← c.args.case.now.same_counts)
     (constant _ _ _ c.with_constant.ensures (rw n at c.firm_constant.ensures)
-    (plus-is _ c.add_product-above.ensures (c.credit_sum-credit.ensures ∙ rw c.long.ensures) refl c.planned_by_year_zone.ensures.0) c.zero.ensures)
+    (plus-is _ c.add_product-above.ensures c.credit_sum-credit.ensures refl c.by_year_zone.ensures.0) c.zero.ensures)

@@ -11,25 +11,24 @@ use borrow.Author.Rules.{rules}
 use Rattle.zone_rows.proofs.spinning.Goals as goal
 
 pub flows-requires : goal.flows-requires
-flows-requires c = let p = c.requires in search rules
+flows-requires c = search rules
 
 pub vre_sum-requires : goal.vre_sum-requires
-vre_sum-requires c = let p = c.requires in search rules
+vre_sum-requires c = search rules
 
 pub spinning_constant-requires : goal.spinning_constant-requires
-spinning_constant-requires c = let p = c.requires in search rules
+spinning_constant-requires c = search rules
 
 pub returns : goal.returns
 unfolding sides_of constant_of
 returns c =
-    let p = c.requires in
-    let n = p.0.0.counts in
-    let hs = p.1.1.1 in
-    let D = read c.args.«data».now in
-    let held = part-sum p.0.1.1.1 hs (λ z g v. on (eqb (zone D g) z) (1000 * v)) c.zone_sum-held.ensures c.long.ensures in
-    let with-short = plus-is _ c.add_product-with_short.ensures held refl c.planned_by_zone_slice.ensures.0 in
+    let n = c.args.case.now.tables.laid_out.counts in
+    let hs = c.requires.1.1.1 in
+    let D = read c.args.case.now.tables.list.now in
+    let held = part-sum c.requires.0.1 hs (λ z g v. on (eqb (zone D g) z) (1000 * v)) c.zone_sum-held.ensures c.long.ensures in
+    let with-short = plus-is _ c.add_product-with_short.ensures held refl c.by_year_zone_slice.ensures.0 in
     let windy =
-    part-sum p.0.1.1.0 hs (λ z g v. on (eqb (zone D g) z) (on (is_vre D g) (err D * v))) (c.vre_sum.ensures ∙ rw c.single-err.ensures.0) c.long-2.ensures in
+    part-sum c.requires.0.0 hs (λ z g v. on (eqb (zone D g) z) (on (is_vre D g) (err D * v))) (c.vre_sum.ensures ∙ rw c.single-err.ensures.0) c.long-2.ensures in
     rw n
     (constant _ _ _ c.with_constant.ensures (rw n at c.spinning_constant.ensures)
     (join_is _ _ c.join-above.ensures with-short c.lines_into.ensures)

@@ -7,12 +7,12 @@ use Rattle.column_terms.proofs.Sound.{ramp-slice, next-ramp}
 use Rattle.column_terms.proofs.ramps.in_ramps.Goals as goal
 
 pub overflow_add-next : goal.overflow_add-next
-overflow_add-next c = let p = c.requires.0 in record { fits = omega (arith, few-slices p.own.counted, ramp-slice p) }
+overflow_add-next c = let p = c.requires.0 in record { fits = omega (arith, few-slices c.args.multipliers.now.counted, ramp-slice p) }
 
 pub in_ramp-later-requires : goal.in_ramp-later-requires
 in_ramp-later-requires c =
     let p = c.requires in
-    λ e. let h = sym c.after_first_hour-2.ensures ∙ e in (next-ramp p.1 h, next-ramp p.0 h)
+    λ e. let h = sym c.after_first_hour-2.ensures ∙ e in (next-ramp c.requires.1 h, next-ramp c.requires.0 h)
 
 pub returns : goal.returns
 unfolding in_ramps

@@ -7,37 +7,29 @@ use Rattle.capped.specs.Cap.{cap}
 use Rattle.sums.specs.Sum.{sum}
 use Rattle.model.specs.Counts.{slices_of}
 use Rattle.model.specs.Data.{read, duration}
-use Rattle.energy.proofs.Laws.{more, season-is, slice-below, few-season-slices, duration-read}
+use Rattle.energy.proofs.Laws.{more, season-is, slice-below, few-season-slices}
 use Rattle.energy.proofs.totals.season_energy.Goals as goal
 
 pub overflow_mul-p : goal.overflow_mul-p
-overflow_mul-p c = let p = c.requires in omega (arith, few-season-slices p.0.counted p.1.1.1)
+overflow_mul-p c = let p = c.requires in omega (arith, few-season-slices c.args.tables.now.laid_out.counted c.requires.1.1)
 
 pub overflow_mul-from : goal.overflow_mul-from
-overflow_mul-from c = let p = c.requires in omega (arith, few-season-slices p.0.counted p.1.1.1)
+overflow_mul-from c = let p = c.requires in omega (arith, few-season-slices c.args.tables.now.laid_out.counted c.requires.1.1)
 
 pub loop-i-init : goal.loop-i-init
 unfolding sum
 loop-i-init c =
     let p = c.requires in
-    let few = few-season-slices p.0.counted p.1.1.1 in
+    let few = few-season-slices c.args.tables.now.laid_out.counted c.requires.1.1 in
     (c.zero-total.ensures, search rules, few.0, few.1)
-
-pub by_slice-hours-requires : goal.by_slice-hours-requires
-by_slice-hours-requires c = let p = c.requires in duration-read p.1.1.1 c.loop-i-test.true p.0
-
-pub part_at-requires : goal.part_at-requires
-part_at-requires c =
-    let p = c.requires in
-    (p.0.counted, (p.1.0, (p.1.1.0, slice-below p.0.counted p.1.1.1 c.loop-i-test.true)))
 
 pub loop-i-preserved : goal.loop-i-preserved
 loop-i-preserved c =
     let a = c.args in
-    let from = a.q * (a.c.days * a.c.hours) in (
+    let from = a.q * (a.tables.now.counts.days * a.tables.now.counts.hours) in (
       c.add_product-total.ensures
           ∙ rw (c.loop-i.invariant.0, c.by_slice-hours.ensures.0, c.part_at.ensures.0)
-          (more c.loop-i.i (λ j. duration (read a.«data».now) (from + j) * get_or a.outputs.now (a.g * slices_of a.c + (from + j)) 0)),
+          (more c.loop-i.i (λ j. duration (read a.tables.now.list.now) (from + j) * get_or a.outputs.now (a.g * slices_of a.tables.now.counts + (from + j)) 0)),
       search rules,
       c.loop-i.invariant.2,
       c.loop-i.invariant.3,
@@ -47,6 +39,6 @@ pub returns : goal.returns
 returns c =
     let l = c.loop-i in
     let a = c.args in
-    let D = read a.«data».now in
+    let D = read a.tables.now.list.now in
     l.invariant.0
-    ∙ ap cap (season-is D a.q (λ s. duration D s * get_or a.outputs.now (a.g * slices_of a.c + s) 0) c.requires.0.counts (omega arith))
+    ∙ ap cap (season-is D a.q (λ s. duration D s * get_or a.outputs.now (a.g * slices_of a.tables.now.counts + s) 0) c.args.tables.now.laid_out.counts (omega arith))

@@ -1,4 +1,5 @@
 use native.Mathlib.Omega.{arith}
+use borrow.Author.Rules.{rules}
 use Rattle.tables.proofs.Laws.{small}
 use Rattle.parts.proofs.Laws.{place-below, few-places}
 use Rattle.parts.proofs.years.part_at.Goals as goal
@@ -22,4 +23,4 @@ bounds-part-at c =
     omega (arith, place-below p.0 _ _ c.slices_of-n.ensures.0 p.1.1.0 p.1.1.1, p.1.0)
 
 pub returns : goal.returns
-returns c = (rw (← c.slices_of-n.ensures.0) c.wide.ensures.0, c.wide.ensures.1)
+returns c = (rw (← c.slices_of-n.ensures.0) c.from.ensures, search rules)

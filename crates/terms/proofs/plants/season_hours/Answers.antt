@@ -7,10 +7,10 @@ use borrow.Author.Rules.{rules}
 use Rattle.terms.proofs.plants.season_hours.Goals as goal
 
 pub overflow_mul-p : goal.overflow_mul-p
-overflow_mul-p c = small 4 24 tt c.requires.0.counted.few_days c.requires.0.counted.few_hours
+overflow_mul-p c = small 4 24 tt c.args.tables.now.laid_out.counted.few_days c.args.tables.now.laid_out.counted.few_hours
 
 pub overflow_mul-from : goal.overflow_mul-from
-overflow_mul-from c = small 4 96 tt (omega arith) (few-season-slices c.requires.0.counted)
+overflow_mul-from c = small 4 96 tt (omega arith) (few-season-slices c.args.tables.now.laid_out.counted)
 
 pub loop-i-init : goal.loop-i-init
 loop-i-init c = added_none
@@ -18,20 +18,20 @@ loop-i-init c = added_none
 -- From the bounds on the counts alone, whether the slice is one of the year's or not.
 pub overflow_add-from : goal.overflow_add-from
 overflow_add-from c =
-    let n = few-season-slices c.requires.0.counted in
+    let n = few-season-slices c.args.tables.now.laid_out.counted in
     let q : c.args.q ≤ 4 = omega arith in
     record { fits = omega (arith, mul-le-mul q n) }
 
 pub by_slice-total-requires : goal.by_slice-total-requires
 by_slice-total-requires c =
-    let below = season-slice-below c.args.c c.requires.1 c.loop-i-test.true in
+    let below = season-slice-below c.args.tables.now.counts c.requires c.loop-i-test.true in
     search rules
 
 pub overflow_add-total : goal.overflow_add-total
-overflow_add-total c = record { fits = omega (arith, few-season-slices c.requires.0.counted) }
+overflow_add-total c = record { fits = omega (arith, few-season-slices c.args.tables.now.laid_out.counted) }
 
 pub overflow_step-i : goal.overflow_step-i
-overflow_step-i c = record { fits = omega (arith, few-season-slices c.requires.0.counted) }
+overflow_step-i c = record { fits = omega (arith, few-season-slices c.args.tables.now.laid_out.counted) }
 
 pub loop-i-preserved : goal.loop-i-preserved
 loop-i-preserved c =
@@ -40,5 +40,5 @@ loop-i-preserved c =
 pub returns : goal.returns
 returns c = (
   added-all c.loop-i.invariant c.loop-i-test.false,
-  omega (arith, few-season-slices c.requires.0.counted),
+  omega (arith, few-season-slices c.args.tables.now.laid_out.counted),
 )
