@@ -19,7 +19,7 @@ use texts::Numbers;
 use writer::{Line, ROOM};
 
 // An answer: its line, and its sentence.
-fn say_answer(line: &mut Line<ROOM>, inputs: &Inputs, answer: Certificate)
+fn say_answer(line: &mut Line<ROOM>, inputs: &Inputs, answer: Result<Certificate, Refusal>)
     requires { AskedOf inputs.now.«data».now inputs.now.plan.now inputs.now.multipliers.now answer }
     ensures { line.new ≡ added room line.old (answer_words inputs.now.«data».now inputs.now.scale inputs.now.plan.now inputs.now.multipliers.now answer) }
 {
@@ -60,7 +60,7 @@ fn explain_frame(line: &mut Line<ROOM>, number: usize)
         plan: &[],
         multipliers: &[],
     };
-    say_answer(line, &none, Certificate::Withheld(Refusal::Frame(number)));
+    say_answer(line, &none, Err(Refusal::Frame(number)));
     line.say(b"\n");
 }
 
