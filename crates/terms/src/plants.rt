@@ -7,8 +7,8 @@ ghost use Rattle.model.specs.Data.{zone, cap_credit, duration, rate, weight, ann
 ghost use Rattle.model.specs.Columns.{cap as cap_column};
 ghost use Rattle.tables.specs.Lists.{data_of, entry_of};
 
+use crate::totals::total;
 use capped::Sum;
-use parts::slices::both;
 use parts::years::part_at;
 use tables::lists::{Case, Tables};
 use tables::names::{ANNUITY, CAP, CAP_CREDIT, DURATION, KIND, RATE, VRE, WEIGHT, ZONE};
@@ -33,7 +33,7 @@ pub fn vre_sum(tables: &Tables, part: &[u32], z: u64, err: u64, s: usize) -> Sum
 {
     let mut total = capped::zero();
     for g in 0..tables.counts.plants {
-        let here = both(tables.by_plant(ZONE, g) == z, tables.by_plant(VRE, g) == 1);
+        let here = (tables.by_plant(ZONE, g) == z) & (tables.by_plant(VRE, g) == 1);
         total = capped::add_product_if(here, total, err, part_at(part, tables.counts, g, s));
     }
     total
@@ -86,11 +86,7 @@ pub fn year_weight(tables: &Tables, y: usize) -> u64
 pub fn capital_sum(case: &Case) -> Sum
     ensures { result ≡ cap (sum case.now.plan.counts.years (λ y. sum case.now.plan.counts.plants (λ g. on (candidate (data_of case.now.tables) g) (rate (data_of case.now.tables) y * weight (data_of case.now.tables) y * annuity (data_of case.now.tables) y g * entry_of case.now.plan (cap_column y g))))) }
 {
-    let mut total = capped::zero();
-    for y in 0..case.plan.counts.years {
-        total = capped::join(total, annuity_sum(case, y));
-    }
-    total
+    total(case.plan.counts.years, |y| annuity_sum(case, y))
 }
 
 // Σ Dur over the slices of season q.

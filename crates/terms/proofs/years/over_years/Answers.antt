@@ -1,5 +1,4 @@
 use mathlib.Core.Path.{◌∙◌}
-use Prim.Native.Nat.{◌-◌}
 use native.Mathlib.Omega.{arith}
 use Rattle.capped.proofs.Laws.{plus-cap}
 use Rattle.tables.proofs.Members.{of-earlier-year}
