@@ -44,13 +44,18 @@ pub fn credit_sum(case: &Case, y: usize, z: u64) -> Sum
     requires { y < case.now.plan.counts.years }
     ensures { result ≡ cap (sum case.now.plan.counts.plants (λ g. on (eqb (zone (data_of case.now.tables) g) z) (cap_credit (data_of case.now.tables) g * entry_of case.now.plan (cap_column y g)))) }
 {
-    let mut total = capped::zero();
-    for g in 0..case.plan.counts.plants {
-        let here = case.tables.by_plant(ZONE, g) == z;
-        let credit = case.tables.by_plant(CAP_CREDIT, g);
-        total = capped::add_product_if(here, total, credit, case.plan.by_year_plant(CAP, y, g));
+    total(case.plan.counts.plants, |g| credit(case, y, z, g))
+}
+
+// CapCredit·cap of a plant of zone z, 0 of any other.
+fn credit(case: &Case, y: usize, z: u64, g: usize) -> Sum
+    requires { (y < case.now.plan.counts.years) × (g < case.now.plan.counts.plants) }
+    ensures { result ≡ cap (on (eqb (zone (data_of case.now.tables) g) z) (cap_credit (data_of case.now.tables) g * entry_of case.now.plan (cap_column y g))) }
+{
+    if case.tables.by_plant(ZONE, g) != z {
+        return capped::zero();
     }
-    total
+    capped::product(case.tables.by_plant(CAP_CREDIT, g), case.plan.by_year_plant(CAP, y, g))
 }
 
 // Σ R·V·Annuity·cap over the candidates, in year y.
