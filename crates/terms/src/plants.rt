@@ -13,6 +13,7 @@ use parts::years::part_at;
 use tables::lists::{Case, Tables};
 use tables::names::{ANNUITY, CAP, CAP_CREDIT, DURATION, KIND, RATE, VRE, WEIGHT, ZONE};
 
+// A loop here and in `vre_sum`, and no `total`: a sum of terms takes half as long again, and the rows of each slice wait for these two.
 // 1000·Σ of a year's part over the plants of zone z, in slice s.
 pub fn zone_sum(tables: &Tables, part: &[u32], z: u64, s: usize) -> Sum
     requires { (length part.now ≡ tables.now.counts.plants * slices_of tables.now.counts) × (s < slices_of tables.now.counts) }
@@ -55,7 +56,10 @@ fn credit(case: &Case, y: usize, z: u64, g: usize) -> Sum
     if case.tables.by_plant(ZONE, g) != z {
         return capped::zero();
     }
-    capped::product(case.tables.by_plant(CAP_CREDIT, g), case.plan.by_year_plant(CAP, y, g))
+    capped::product(
+        case.tables.by_plant(CAP_CREDIT, g),
+        case.plan.by_year_plant(CAP, y, g),
+    )
 }
 
 // Σ R·V·Annuity·cap over the candidates, in year y.
@@ -63,20 +67,20 @@ pub fn annuity_sum(case: &Case, y: usize) -> Sum
     requires { y < case.now.plan.counts.years }
     ensures { result ≡ cap (sum case.now.plan.counts.plants (λ g. on (candidate (data_of case.now.tables) g) (rate (data_of case.now.tables) y * weight (data_of case.now.tables) y * annuity (data_of case.now.tables) y g * entry_of case.now.plan (cap_column y g)))) }
 {
-    let share = year_weight(&case.tables, y);
-    let mut total = capped::zero();
-    for g in 0..case.plan.counts.plants {
-        let candidate = case.tables.by_plant(KIND, g) != 0;
-        let annuity = case.tables.by_year_plant(ANNUITY, y, g);
-        total = capped::add_product3_if(
-            candidate,
-            total,
-            share,
-            annuity,
-            case.plan.by_year_plant(CAP, y, g),
-        );
+    total(case.plan.counts.plants, |g| capital(case, y, g))
+}
+
+// R·V·Annuity·cap of a candidate, 0 of an existing plant.
+fn capital(case: &Case, y: usize, g: usize) -> Sum
+    requires { (y < case.now.plan.counts.years) × (g < case.now.plan.counts.plants) }
+    ensures { result ≡ cap (on (candidate (data_of case.now.tables) g) (rate (data_of case.now.tables) y * weight (data_of case.now.tables) y * annuity (data_of case.now.tables) y g * entry_of case.now.plan (cap_column y g))) }
+{
+    if case.tables.by_plant(KIND, g) == 0 {
+        return capped::zero();
     }
-    total
+    let share = year_weight(&case.tables, y);
+    let annuity = capped::product(share, case.tables.by_year_plant(ANNUITY, y, g));
+    capped::scale(annuity, case.plan.by_year_plant(CAP, y, g))
 }
 
 // W = R·V
