@@ -7,7 +7,7 @@ ghost use Rattle.model.specs.Data.{zone, cap_credit, duration, rate, weight, ann
 ghost use Rattle.model.specs.Columns.{cap as cap_column};
 ghost use Rattle.tables.specs.Lists.{data_of, entry_of};
 
-use crate::totals::total;
+use crate::totals::{exact_total, total};
 use capped::Sum;
 use parts::years::part_at;
 use tables::lists::{Case, Tables};
@@ -105,9 +105,5 @@ pub fn season_hours(tables: &Tables, q: usize) -> u64
 {
     let p = tables.counts.days * tables.counts.hours;
     let from = q * p;
-    let mut total = 0;
-    for i in 0..p {
-        total = total + tables.by_slice(DURATION, from + i);
-    }
-    total
+    exact_total(p, |i| tables.by_slice(DURATION, from + i))
 }
