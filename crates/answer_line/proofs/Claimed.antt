@@ -8,9 +8,10 @@ use native.Mathlib.Omega.{arith}
 use lib.ListN.{get_or}
 use lib.Seq.{sets-eq}
 use Rattle.model.specs.Calls.{code_of}
-use Rattle.answer_line.specs.Line.{digit, digits_within, decimal, line_with, line_of}
-use Rattle.answer_line.specs.Claims.{read_from, AreDigits, DecimalOf, Decimals, LineThenRest, FirstCase, FourthCase}
-use Rattle.answer_line.proofs.Laws.{low_or_high, within_low, within-high, decimal-few}
+use Rattle.writer.specs.Decimal.{digit, digits_within, decimal}
+use Rattle.writer.proofs.Laws.{low_or_high, within_low, within-high, decimal-few, added-fitting}
+use Rattle.answer_line.specs.Line.{line_with, line_of}
+use Rattle.answer_line.specs.Claims.{read_from, AreDigits, DecimalOf, Decimals, LineThenRest, WholeLine, FirstCase, FourthCase}
 
 read-joined : (p q : List ℕ) (v : ℕ) → read_from v (p ++ q) ≡ read_from (read_from v p) q
 read-joined [] q v = refl
@@ -53,6 +54,9 @@ decimals n = within-decimal n n (omega arith)
 
 pub line-then-rest : LineThenRest
 line-then-rest a l h = sets-eq (line_of a) l 0 (rw zero-add h) ∙ rw zero-add
+
+pub whole-line : WholeLine
+whole-line a size l h = added-fitting size l (line_of a) h
 
 pub first-case : FirstCase
 unfolding line_of line_with digits_within

@@ -4,7 +4,9 @@ use Rattle.std.proofs.lemmas.List.Edits.{sets}
 use Rattle.model.specs.declared.Certificate.{Certificate}
 use Rattle.model.specs.declared.Certificate.TheVariants.{Issued, Withheld}
 use Rattle.model.specs.declared.Refusal.TheVariants.{Underpriced}
-use Rattle.answer_line.specs.Line.{decimal, line_of}
+use Rattle.writer.specs.Decimal.{decimal}
+use Rattle.writer.specs.Writing.{added}
+use Rattle.answer_line.specs.Line.{line_of}
 
 -- the number that digits stand for, read from the left after a number v
 abbrev pub read_from : ℕ → List ℕ → ℕ
@@ -26,9 +28,13 @@ pub record DecimalOf (n : ℕ) (bytes : List ℕ) : Type 0 where
 abbrev pub Decimals : Type 0
 Decimals = (n : ℕ) → DecimalOf n (decimal n)
 
--- what `answer_line` leaves in a list that has room for the line: the line, then what stood after that place
+-- the line written over the first bytes of a list that has room for it: the line, then what stood after that place
 abbrev pub LineThenRest : Type 0
 LineThenRest = (a : Certificate) (l : List ℕ) → length (line_of a) ≤ length l → sets l 0 (line_of a) ≡ line_of a ++ drop (length (line_of a)) l
+
+-- what `answer_line` leaves in a line that has room for it: what stood there, then the answer's whole line
+abbrev pub WholeLine : Type 0
+WholeLine = (a : Certificate) (size : ℕ) (l : List ℕ) → length l + length (line_of a) ≤ size → added size l (line_of a) ≡ l ++ line_of a
 
 -- `A 40000000000 0`, document 01's first case, and `R 12 3`, byte by byte
 abbrev pub FirstCase : Type 0

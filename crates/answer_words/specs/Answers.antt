@@ -1,5 +1,5 @@
 -- What is said of an answer of certify, as bytes: one sentence, without its line feed.
-use Rattle.std.specs.Prelude.{List, ◌++◌, ℕ, ℤ, length}
+use Rattle.std.specs.Prelude.{List, [], ◌∷◌, ◌++◌, ℕ, ℤ, length}
 use Rattle.model.specs.declared.Refusal.{Refusal}
 use Rattle.model.specs.declared.Refusal.TheVariants.{Shape, DataLength, Entry, Scale, PlanLength, RowOffScale, Broken, CostOffScale, MultiplierCount, Multiplier, ColumnOffScale, Underpriced, GapOffScale, Board, Frame, Storage}
 use Rattle.model.specs.declared.Certificate.{Certificate}
@@ -9,12 +9,13 @@ use Rattle.model.specs.Columns.{entries}
 use Rattle.model.specs.Calls.{code_of}
 use Rattle.texts.specs.Claims.{bytes}
 use Rattle.writer.specs.Names.{name_at}
+use Rattle.sentences.specs.Names.{listed}
 use Rattle.sentences.specs.Sentences.{length_words, shape_words, out_of_range_words, storage_words, scale_words, off_scale_words, broken_words, multiplier_words, column_off_scale_words, underpriced_words}
 use Rattle.plain_words.specs.Plain.{frame_words, accepted_words}
 
 -- the words of the refusals, by number; there is no refusal 0
-abbrev pub refusal_names : List ℕ
-refusal_names = bytes "/Shape/Data length/Entry/Scale/Plan length/Row off scale/Broken/Cost off scale/Multiplier count/Multiplier/Column off scale/Underpriced/Gap off scale/Board/Frame/Storage"
+abbrev pub refusal_names : List (List ℕ)
+refusal_names = listed ("" ∷ "Shape" ∷ "Data length" ∷ "Entry" ∷ "Scale" ∷ "Plan length" ∷ "Row off scale" ∷ "Broken" ∷ "Cost off scale" ∷ "Multiplier count" ∷ "Multiplier" ∷ "Column off scale" ∷ "Underpriced" ∷ "Gap off scale" ∷ "Board" ∷ "Frame" ∷ "Storage" ∷ [])
 
 -- The sentence
 

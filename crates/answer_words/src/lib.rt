@@ -2,7 +2,7 @@
 #![tactic(auto)]
 
 ghost use Rattle.std.specs.Prelude.{◌≡◌};
-ghost use Rattle.writer.specs.Writing.{Started, Said};
+ghost use Rattle.writer.specs.Writing.{room, added};
 ghost use Rattle.answer_words.specs.Asked.{Asked, AskedOf};
 ghost use Rattle.answer_words.specs.Answers.{body_words, refused_words, sentence};
 
@@ -13,92 +13,91 @@ use model::{Certificate, Refusal};
 use plain_words::{say_accepted, say_frame};
 use row_words::{say_broken, say_multiplier, say_off_scale};
 use sentences::say_lengths;
-use writer::{ROOM, say, say_name};
+use writer::{Line, ROOM};
+
+// What certify was given.
+#[derive(Clone, Copy, Debug)]
+pub struct Inputs<'a> {
+    pub data: &'a [u32],
+    pub scale: u32,
+    pub plan: &'a [u32],
+    pub multipliers: &'a [i64],
+}
+
+// The words of the refusals, by number; there is no refusal 0.
+const REFUSAL_NAMES: [&str; 17] = [
+    "",
+    "Shape",
+    "Data length",
+    "Entry",
+    "Scale",
+    "Plan length",
+    "Row off scale",
+    "Broken",
+    "Cost off scale",
+    "Multiplier count",
+    "Multiplier",
+    "Column off scale",
+    "Underpriced",
+    "Gap off scale",
+    "Board",
+    "Frame",
+    "Storage",
+];
 
 // The place of a refusal, and its figures.
-fn say_body(
-    line: &mut [u8; ROOM],
-    at: usize,
-    data: &[u32],
-    scale: u32,
-    plan: &[u32],
-    multipliers: &[i64],
-    refusal: Refusal,
-) -> usize
-    requires { Started line.old at × Asked «data».now plan.now multipliers.now refusal }
-    ensures { Said line.old at (body_words «data».now scale plan.now multipliers.now refusal) result line.new }
+#[tactic(auto, unfolding(crate::specs::Answers::body_words))]
+fn say_body(line: &mut Line<ROOM>, inputs: &Inputs, refusal: Refusal)
+    requires { Asked inputs.now.«data».now inputs.now.plan.now inputs.now.multipliers.now refusal }
+    ensures { line.new ≡ added room line.old (body_words inputs.now.«data».now inputs.now.scale inputs.now.plan.now inputs.now.multipliers.now refusal) }
 {
+    let Inputs {
+        data,
+        scale,
+        plan,
+        multipliers,
+    } = *inputs;
     match refusal {
-        Refusal::Shape(count) => say_shape(line, at, data, count),
-        Refusal::DataLength(numbers) => say_lengths(line, at, b"DATA", data.len(), numbers),
-        Refusal::Entry(entry) => say_out_of_range(line, at, data, entry),
-        Refusal::Scale => say_scale(line, at, scale),
-        Refusal::PlanLength(columns) => say_lengths(line, at, b"PLAN", plan.len(), columns),
-        Refusal::RowOffScale(large) => say_off_scale(line, at, data, scale, plan, large),
-        Refusal::Broken(row) => say_broken(line, at, data, scale, plan, row),
-        Refusal::CostOffScale => say(line, at, b"the cost is more than 2^62 - 1"),
-        Refusal::MultiplierCount(rows) => say_lengths(line, at, b"DUAL", multipliers.len(), rows),
-        Refusal::Multiplier(multiplier) => say_multiplier(line, at, data, multipliers, multiplier),
-        Refusal::ColumnOffScale(wide) => say_column_off_scale(line, at, data, multipliers, wide),
-        Refusal::Underpriced(column) => say_underpriced(line, at, data, multipliers, column),
-        Refusal::GapOffScale => say(line, at, b"a sum of the terms N*m*k is more than 2^62 - 1"),
-        Refusal::Board => say(
-            line,
-            at,
+        Refusal::Shape(count) => say_shape(line, data, count),
+        Refusal::DataLength(numbers) => say_lengths(line, b"DATA", data.len(), numbers),
+        Refusal::Entry(entry) => say_out_of_range(line, data, entry),
+        Refusal::Scale => say_scale(line, scale),
+        Refusal::PlanLength(columns) => say_lengths(line, b"PLAN", plan.len(), columns),
+        Refusal::RowOffScale(large) => say_off_scale(line, data, scale, plan, large),
+        Refusal::Broken(row) => say_broken(line, data, scale, plan, row),
+        Refusal::CostOffScale => line.say(b"the cost is more than 2^62 - 1"),
+        Refusal::MultiplierCount(rows) => say_lengths(line, b"DUAL", multipliers.len(), rows),
+        Refusal::Multiplier(multiplier) => say_multiplier(line, data, multipliers, multiplier),
+        Refusal::ColumnOffScale(wide) => say_column_off_scale(line, data, multipliers, wide),
+        Refusal::Underpriced(column) => say_underpriced(line, data, multipliers, column),
+        Refusal::GapOffScale => line.say(b"a sum of the terms N*m*k is more than 2^62 - 1"),
+        Refusal::Board => line.say(
             b"the year is none of the plan's, or the board has too few places",
         ), // never reached: certify does not answer 14 (the law `refused-asked`)
-        Refusal::Frame(number) => say_frame(line, at, number),
-        Refusal::Storage(plant) => say_storage(line, at, plant),
+        Refusal::Frame(number) => say_frame(line, number),
+        Refusal::Storage(plant) => say_storage(line, plant),
     }
 }
 
 // A refusal: its word, its place and its figures.
-fn say_refusal(
-    line: &mut [u8; ROOM],
-    at: usize,
-    data: &[u32],
-    scale: u32,
-    plan: &[u32],
-    multipliers: &[i64],
-    refusal: Refusal,
-) -> usize
-    requires { Started line.old at × Asked «data».now plan.now multipliers.now refusal }
-    ensures { Said line.old at (refused_words «data».now scale plan.now multipliers.now refusal) result line.new }
+fn say_refusal(line: &mut Line<ROOM>, inputs: &Inputs, refusal: Refusal)
+    requires { Asked inputs.now.«data».now inputs.now.plan.now inputs.now.multipliers.now refusal }
+    ensures { line.new ≡ added room line.old (refused_words inputs.now.«data».now inputs.now.scale inputs.now.plan.now inputs.now.multipliers.now refusal) }
 {
     let code = code_of(refusal);
-    let named = say_name(
-        line,
-        at,
-        b"/Shape/Data length/Entry/Scale/Plan length/Row off scale/Broken/Cost off scale/Multiplier count/Multiplier/Column off scale/Underpriced/Gap off scale/Board/Frame/Storage",
-        code.number as usize,
-    );
-    let parted = say(line, named, b": ");
-    say_body(line, parted, data, scale, plan, multipliers, refusal)
+    line.say_name(&REFUSAL_NAMES, code.number as usize);
+    line.say(b": ");
+    say_body(line, inputs, refusal);
 }
 
 // The sentence of an answer, without its line feed.
-pub fn say_sentence(
-    line: &mut [u8; ROOM],
-    at: usize,
-    data: &[u32],
-    scale: u32,
-    plan: &[u32],
-    multipliers: &[i64],
-    answer: Certificate,
-) -> usize
-    requires { Started line.old at × AskedOf «data».now plan.now multipliers.now answer }
-    ensures { Said line.old at (sentence «data».now scale plan.now multipliers.now answer) result line.new }
+#[tactic(auto, unfolding(crate::specs::Answers::sentence))]
+pub fn say_sentence(line: &mut Line<ROOM>, inputs: &Inputs, answer: Certificate)
+    requires { AskedOf inputs.now.«data».now inputs.now.plan.now inputs.now.multipliers.now answer }
+    ensures { line.new ≡ added room line.old (sentence inputs.now.«data».now inputs.now.scale inputs.now.plan.now inputs.now.multipliers.now answer) }
 {
     match answer {
-        Certificate::Issued(cost, gap) => say_accepted(line, at, cost, gap),
-        Certificate::Withheld(refusal) => say_refusal(
-            line,
-            at,
-            data,
-            scale,
-            plan,
-            multipliers,
-            refusal,
-        ),
+        Certificate::Issued(cost, gap) => say_accepted(line, cost, gap),
+        Certificate::Withheld(refusal) => say_refusal(line, inputs, refusal),
     }
 }

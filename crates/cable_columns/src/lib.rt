@@ -9,9 +9,8 @@ ghost use Rattle.model.specs.Standing.{built_in⁻, total_in_slice⁺, total_in�
 ghost use Rattle.column_terms.specs.Pairs.{pair_of};
 ghost use Rattle.tables.specs.Lists.{data_of};
 
-use duals::{Multipliers, Pricing};
 use column_terms::Pair;
-use column_terms::pairs::{add_row, add_row_if, join, none, take_row, take_row_if};
+use duals::{Multipliers, Pricing};
 use tables::families::{LINE_BALANCE, LINES_BOTH_WAYS, NEW_LINES, SPINNING, TRANSFER};
 use tables::names::MW_PER_LINE;
 use tables::sets::slices_of;
@@ -21,17 +20,26 @@ pub fn built_column(multipliers: &Multipliers, y: usize, z: usize, w: usize) -> 
     requires { (y < multipliers.now.counts.years) × ((z < multipliers.now.counts.zones) × (w < multipliers.now.counts.zones)) }
     ensures { (D : Data) → result ≡ pair_of multipliers.now.counts multipliers.now.list.now nothing (built_in⁻ D y z w) }
 {
-    let p = take_row(none(), 1, multipliers, LINE_BALANCE, y, z, w, 0);
-    take_row(p, 1, multipliers, NEW_LINES, 0, z, w, 0)
+    Pair::none()
+        .take_row(1, multipliers, LINE_BALANCE, y, z, w, 0)
+        .take_row(1, multipliers, NEW_LINES, 0, z, w, 0)
 }
 
 // The rows of one slice: family 2 and, where the line goes to another zone, 3. `power` is the MW of a line.
-fn total_in_slice(power: u64, multipliers: &Multipliers, y: usize, z: usize, w: usize, s: usize) -> Pair
+fn total_in_slice(
+    power: u64,
+    multipliers: &Multipliers,
+    y: usize,
+    z: usize,
+    w: usize,
+    s: usize,
+) -> Pair
     requires { (power ≤ most32) × ((y < multipliers.now.counts.years) × ((z < multipliers.now.counts.zones) × ((w < multipliers.now.counts.zones) × (s < slices_of multipliers.now.counts)))) }
     ensures { (D : Data) → power ≡ mw_per_line D z w → result ≡ pair_of multipliers.now.counts multipliers.now.list.now (total_in_slice⁺ D y z w s) nothing }
 {
-    let p = add_row(none(), power, multipliers, TRANSFER, y, z, w, s);
-    add_row_if(z != w, p, 1000 * power, multipliers, SPINNING, y, w, 0, s)
+    Pair::none()
+        .add_row(power, multipliers, TRANSFER, y, z, w, s)
+        .add_row_if(z != w, 1000 * power, multipliers, SPINNING, y, w, 0, s)
 }
 
 // The rows of all slices. Where a line would carry nothing, the column does not stand in them.
@@ -40,13 +48,12 @@ fn total_in_slices(pricing: &Pricing, y: usize, z: usize, w: usize) -> Pair
     ensures { result ≡ pair_of pricing.now.multipliers.counts pricing.now.multipliers.list.now (∑ (slices_of pricing.now.multipliers.counts) (total_in_slice⁺ (data_of pricing.now.tested.tables.now) y z w)) nothing }
 {
     let power = pricing.tested.tables.by_pair(MW_PER_LINE, z, w);
-    let mut p = none();
+    let mut p = Pair::none();
     if power == 0 {
         return p;
     }
-    let n = slices_of(pricing.multipliers.counts);
-    for s in 0..n {
-        p = join(p, total_in_slice(power, &pricing.multipliers, y, z, w, s));
+    for s in 0..slices_of(pricing.multipliers.counts) {
+        p = p.join(total_in_slice(power, &pricing.multipliers, y, z, w, s));
     }
     p
 }
@@ -56,10 +63,20 @@ pub fn total_column(pricing: &Pricing, y: usize, z: usize, w: usize) -> Pair
     requires { (y < pricing.now.multipliers.counts.years) × ((z < pricing.now.multipliers.counts.zones) × (w < pricing.now.multipliers.counts.zones)) }
     ensures { result ≡ pair_of pricing.now.multipliers.counts pricing.now.multipliers.list.now (total_in⁺ (data_of pricing.now.tested.tables.now) y z w) (total_in⁻ (data_of pricing.now.tested.tables.now) y z w) }
 {
-    let slices = total_in_slices(pricing, y, z, w);
+    let multipliers = &pricing.multipliers;
     let next = y + 1;
-    let p = add_row(slices, 1, &pricing.multipliers, LINE_BALANCE, y, z, w, 0);
-    let q = take_row_if(next < pricing.multipliers.counts.years, p, 1, &pricing.multipliers, LINE_BALANCE, next, z, w, 0);
-    let r = add_row_if(z < w, q, 1, &pricing.multipliers, LINES_BOTH_WAYS, y, z, w, 0);
-    take_row_if(w < z, r, 1, &pricing.multipliers, LINES_BOTH_WAYS, y, w, z, 0)
+    total_in_slices(pricing, y, z, w)
+        .add_row(1, multipliers, LINE_BALANCE, y, z, w, 0)
+        .take_row_if(
+            next < multipliers.counts.years,
+            1,
+            multipliers,
+            LINE_BALANCE,
+            next,
+            z,
+            w,
+            0,
+        )
+        .add_row_if(z < w, 1, multipliers, LINES_BOTH_WAYS, y, z, w, 0)
+        .take_row_if(w < z, 1, multipliers, LINES_BOTH_WAYS, y, w, z, 0)
 }

@@ -68,6 +68,8 @@ others-hourly =
 pub rest-hourly : (k : ℕ) → k < column_kind_count → NoneAmong (Unit {0}) by_unit k → Hourly k
 rest-hourly k l h = others-hourly k l (none-among k by_unit h).1
 
+pub ruleset column_laws = (by-hour, rest-hourly)
+
 -- a column's price is that of its unit times its hours
 module _ (D : Data) (y i j s : ℕ) where
   in_order : (p : ℕ) → p * year_weight D y * duration D s ≡ year_weight D y * duration D s * p

@@ -1,6 +1,6 @@
 -- The sums of a column, made term by term: the laws of the steps and of the loops, and the ramps by the names of the model. Assumes nothing.
 -- `Priced` and `Walked` are records, so that a law finds the coefficients in them.
-use mathlib.Core.Path.{◌≡◌, refl, ap, ap₂, ◌∙◌}
+use mathlib.Core.Path.{◌≡◌, refl, sym, ap, ap₂, ◌∙◌}
 use mathlib.Core.Bool.{Bool, true, false}
 use mathlib.Core.List.{List}
 use Prim.Native.Nat.{ℕ, ◌+◌, ◌≤◌, ◌<◌, zero-le}
@@ -20,38 +20,37 @@ use Rattle.model.specs.Counts.{sets, slices_of, [ygs]}
 use Rattle.model.specs.Data.{Data}
 use Rattle.model.specs.Families.{family, families, family_of, row_boxes, family_count}
 use Rattle.model.specs.Standing.{ramps_in}
-use Rattle.tables.specs.Layout.{Counted}
 use Rattle.tables.proofs.Laws.{get_or-map-in}
-use Rattle.duals.specs.Multipliers.{RowsAt}
 use Rattle.tables.proofs.Members.{family-box}
+use Rattle.duals.specs.declared.Pricing.{Pricing}
+use Rattle.tables.specs.Lists.{data_of}
 use Rattle.column_terms.specs.declared.Pair.{Pair}
-use Rattle.column_terms.specs.Pairs.{no_terms, joined, added, taken, added_if, taken_if, row_multiplier, pair_of, family_sets, Row, Ready}
-use Rattle.column_terms.specs.Ramps.{Ramp, in_ramps}
+use Rattle.column_terms.specs.Pairs.{no_terms, joined, added, taken, added_if, taken_if, row_multiplier, pair_of, family_sets, RowAt}
+use Rattle.column_terms.specs.Ramps.{RampAt, in_ramps}
 
 -- a row's multiplier as its reader asks for it
 pub family-set : (k : ℕ) → k < family_count → get_or family_sets k 0 ≡ (family_of k).set
 unfolding family_of
 family-set k h = get_or-map-in (λ (f : Family). f.set) families (family 0 0 false) 0 k h
 
-pub readable : {ms : List ℤ} {rows-at : List ℕ} {c : Counts} {k y i j s : ℕ} → Row ms rows-at c k y i j s
-    → Counted c × (RowsAt ms rows-at c × Member (row_boxes c) (index k y i j s))
+pub readable : {c : Counts} {k y i j s : ℕ} → RowAt c k y i j s → Member (row_boxes c) (index k y i j s)
 unfolding row_boxes
 readable {c} {k} r =
     let e = family-box c r.family in
     let set = family-set k r.family in
-    (r.counted, (r.rows_at, (r.family, rw (e, ← set) r.inside.year, rw (e, ← set) r.inside.first, rw (e, ← set) r.inside.second, rw (e, ← set) r.inside.slice)))
+    (r.family, rw (e, ← set) r.inside.year, rw (e, ← set) r.inside.first, rw (e, ← set) r.inside.second, rw (e, ← set) r.inside.slice)
 
-pub row_at : {ms : List ℤ} {rows-at : List ℕ} {c : Counts} {k y i j s : ℕ} → Counted c → RowsAt ms rows-at c → k < family_count
-    → y < (box_of (sets c) (get_or family_sets k 0)).years → i < (box_of (sets c) (get_or family_sets k 0)).firsts
-    → j < (box_of (sets c) (get_or family_sets k 0)).seconds → s < (box_of (sets c) (get_or family_sets k 0)).slices → Row ms rows-at c k y i j s
-row_at n d h hy hi hj hs = record { counted = n; rows_at = d; family = h; inside = record { year = hy; «first» = hi; second = hj; slice = hs } }
+pub row_at : {c : Counts} {k y i j s : ℕ} → k < family_count → y < (box_of (sets c) (get_or family_sets k 0)).years
+    → i < (box_of (sets c) (get_or family_sets k 0)).firsts → j < (box_of (sets c) (get_or family_sets k 0)).seconds
+    → s < (box_of (sets c) (get_or family_sets k 0)).slices → RowAt c k y i j s
+row_at h hy hi hj hs = record { family = h; inside = record { year = hy; «first» = hi; second = hj; slice = hs } }
 
 -- a row of a plant's slice, and one that is a ramp
-module _ {l tables-at : List ℕ} {ms : List ℤ} {rows-at : List ℕ} {c : Counts} {y g s : ℕ} (r : Ready l tables-at ms rows-at c) (h : (y < c.years) × ((g < c.plants) × (s < slices_of c))) where
-  pub plant-row : {k : ℕ} → k < family_count → get_or family_sets k 0 ≡ [ygs] → Row ms rows-at c k y g 0 s
-  plant-row few e = row_at r.tables_at.counted r.rows_at few (rw e h.0) (rw e h.1.0) (rw e (omega arith)) (rw e h.1.1)
+module _ {c : Counts} {y g s : ℕ} (h : (y < c.years) × ((g < c.plants) × (s < slices_of c))) where
+  pub plant-row : {k : ℕ} → k < family_count → get_or family_sets k 0 ≡ [ygs] → RowAt c k y g 0 s
+  plant-row few e = row_at few (rw e h.0) (rw e h.1.0) (rw e (omega arith)) (rw e h.1.1)
 
-  pub plant-ramp : {k : ℕ} → k < family_count → get_or family_sets k 0 ≡ [ygs] → Ramp ms rows-at c [ygs] k y g s
+  pub plant-ramp : {k : ℕ} → k < family_count → get_or family_sets k 0 ≡ [ygs] → RampAt c [ygs] k y g s
   plant-ramp few e = record { own = plant-row few e; over = e; slices = refl }
 
 pub pair_is : {u v d e : ℕ} → u ≡ v → d ≡ e → ◌≡◌ {A = Pair} (record { up = cap u; down = cap d }) (record { up = cap v; down = cap e })
@@ -119,3 +118,7 @@ module _ {c : Counts} {ms : List ℤ} where
 pub ramps-are : (D : Data) {c : Counts} → D.counts ≡ c → (fall rise y g s : ℕ) → in_ramps c fall rise y g s ≡ ramps_in D (fall + 1) (rise + 1) y g s
 unfolding in_ramps
 ramps-are D e fall rise y g s = rw (← e, add-sub_cancel, add-sub_cancel)
+
+-- the counts of the multipliers are those of the data
+pub counts_of : (p : Pricing) → (data_of p.tested.tables.now).counts ≡ p.multipliers.counts
+counts_of p = p.tested.tables.now.laid_out.counts ∙ sym p.same_counts

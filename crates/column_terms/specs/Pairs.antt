@@ -1,5 +1,5 @@
 -- The terms m·a of a column by sign: the steps that make their two sums, and what the sums come to.
-use Rattle.std.specs.Prelude.{◌≡◌, Bool, true, false, List, map, ℕ, ◌+◌, ◌*◌, ◌<◌, ℤ, pos, length, get_or}
+use Rattle.std.specs.Prelude.{Bool, true, false, List, map, ℕ, ◌+◌, ◌*◌, ◌<◌, ℤ, pos, length, get_or}
 use Rattle.capped.specs.Cap.{cap, plus, both}
 use Rattle.sums.specs.Index.{Index, number}
 use Rattle.sums.specs.Linear.{Linear, value}

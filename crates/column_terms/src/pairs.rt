@@ -1,4 +1,4 @@
-// The two sums of a column, made term by term.
+// The two sums of a column, made term by term: a column reads as the chain of its rows.
 ghost use Rattle.std.specs.Prelude.{◌≡◌, true};
 ghost use Rattle.sums.specs.Index.{index};
 ghost use Rattle.column_terms.specs.Pairs.{no_terms, joined, added, taken, added_if, taken_if, row_multiplier};
@@ -8,106 +8,143 @@ use crate::Pair;
 use duals::{Multiplier, Multipliers};
 use sums::Place;
 
-pub fn none() -> Pair
-    ensures { result ≡ no_terms }
-{
-    Pair {
-        up: capped::zero(),
-        down: capped::zero(),
+impl Pair {
+    #[tactic(auto, unfolding(crate::specs::Pairs::no_terms))]
+    pub fn none() -> Pair
+        ensures { result ≡ no_terms }
+    {
+        Pair {
+            up: capped::zero(),
+            down: capped::zero(),
+        }
+    }
+
+    #[tactic(auto, unfolding(crate::specs::Pairs::joined))]
+    pub fn join(self, more: Pair) -> Pair
+        ensures { result ≡ joined self more }
+    {
+        Pair {
+            up: capped::join(self.up, more.up),
+            down: capped::join(self.down, more.down),
+        }
+    }
+
+    // A term with the coefficient a.
+    #[tactic(auto, unfolding(crate::specs::Pairs::added))]
+    pub fn add(self, a: u64, m: Multiplier) -> Pair
+        ensures { result ≡ added self a m }
+    {
+        Pair {
+            up: capped::add_product(self.up, a, m.up),
+            down: capped::add_product(self.down, a, m.down),
+        }
+    }
+
+    // A term with the coefficient −a: (−a)·m is a·(−m).
+    #[tactic(auto, unfolding(crate::specs::Pairs::added, crate::specs::Pairs::taken))]
+    pub fn take(self, a: u64, m: Multiplier) -> Pair
+        ensures { result ≡ taken self a m }
+    {
+        self.add(a, m.negated())
+    }
+
+    // The term of row y, i, j, s of family k, in which the column has the coefficient a. Family and indices are not one Place: a Place is handed over in
+    // memory, where inlining no longer sees that the family is a constant; certify took 1.7 times as long.
+    pub fn add_row(
+        self,
+        a: u64,
+        multipliers: &Multipliers,
+        k: usize,
+        y: usize,
+        i: usize,
+        j: usize,
+        s: usize,
+    ) -> Pair
+        requires { RowAt multipliers.now.counts k y i j s }
+        ensures { result ≡ added self a (row_multiplier multipliers.now.counts multipliers.now.list.now (index k y i j s)) }
+    {
+        self.add(a, row_multiplier(multipliers, k, y, i, j, s))
+    }
+
+    // The term of a row in which the column has the coefficient −a.
+    pub fn take_row(
+        self,
+        a: u64,
+        multipliers: &Multipliers,
+        k: usize,
+        y: usize,
+        i: usize,
+        j: usize,
+        s: usize,
+    ) -> Pair
+        requires { RowAt multipliers.now.counts k y i j s }
+        ensures { result ≡ taken self a (row_multiplier multipliers.now.counts multipliers.now.list.now (index k y i j s)) }
+    {
+        self.take(a, row_multiplier(multipliers, k, y, i, j, s))
+    }
+
+    // The same where a test holds; where it does not, there need not be such a row.
+    #[tactic(auto, unfolding(crate::specs::Pairs::added_if))]
+    pub fn add_row_if(
+        self,
+        on: bool,
+        a: u64,
+        multipliers: &Multipliers,
+        k: usize,
+        y: usize,
+        i: usize,
+        j: usize,
+        s: usize,
+    ) -> Pair
+        requires { on ≡ true → RowAt multipliers.now.counts k y i j s }
+        ensures { result ≡ added_if on self a (row_multiplier multipliers.now.counts multipliers.now.list.now (index k y i j s)) }
+    {
+        if on {
+            return self.add_row(a, multipliers, k, y, i, j, s);
+        }
+        self
+    }
+
+    #[tactic(auto, unfolding(crate::specs::Pairs::taken_if))]
+    pub fn take_row_if(
+        self,
+        on: bool,
+        a: u64,
+        multipliers: &Multipliers,
+        k: usize,
+        y: usize,
+        i: usize,
+        j: usize,
+        s: usize,
+    ) -> Pair
+        requires { on ≡ true → RowAt multipliers.now.counts k y i j s }
+        ensures { result ≡ taken_if on self a (row_multiplier multipliers.now.counts multipliers.now.list.now (index k y i j s)) }
+    {
+        if on {
+            return self.take_row(a, multipliers, k, y, i, j, s);
+        }
+        self
     }
 }
 
-pub fn join(p: Pair, q: Pair) -> Pair
-    ensures { result ≡ joined p q }
-{
-    let up = p.up;
-    let down = p.down;
-    let more_up = q.up;
-    let more_down = q.down;
-    Pair {
-        up: capped::join(up, more_up),
-        down: capped::join(down, more_down),
-    }
-}
-
-// A term with the coefficient a.
-pub fn add(p: Pair, a: u64, m: Multiplier) -> Pair
-    ensures { result ≡ added p a m }
-{
-    let up = p.up;
-    let down = p.down;
-    Pair {
-        up: capped::add_product(up, a, m.up),
-        down: capped::add_product(down, a, m.down),
-    }
-}
-
-// A term with the coefficient −a.
-pub fn take(p: Pair, a: u64, m: Multiplier) -> Pair
-    ensures { result ≡ taken p a m }
-{
-    let up = p.up;
-    let down = p.down;
-    Pair {
-        up: capped::add_product(up, a, m.down),
-        down: capped::add_product(down, a, m.up),
-    }
-}
-
-// The term of row y, i, j, s of family k, in which the column has the coefficient a. Family and indices are not one Place: a Place is handed over in
-// memory, where inlining no longer sees that the family is a constant; certify took 1.7 times as long.
-pub fn add_row(p: Pair, a: u64, multipliers: &Multipliers, k: usize, y: usize, i: usize, j: usize, s: usize) -> Pair
+// The multiplier of row y, i, j, s of family k.
+#[tactic(auto, unfolding(crate::specs::Pairs::row_multiplier))]
+fn row_multiplier(
+    multipliers: &Multipliers,
+    k: usize,
+    y: usize,
+    i: usize,
+    j: usize,
+    s: usize,
+) -> Multiplier
     requires { RowAt multipliers.now.counts k y i j s }
-    ensures { result ≡ added p a (row_multiplier multipliers.now.counts multipliers.now.list.now (index k y i j s)) }
+    ensures { result ≡ row_multiplier multipliers.now.counts multipliers.now.list.now (index k y i j s) }
 {
-    add(
-        p,
-        a,
-        multipliers.at(Place {
-                kind: k,
-                year: y,
-                first: i,
-                second: j,
-                slice: s,
-            }),
-    )
-}
-
-// The term of a row in which the column has the coefficient −a.
-pub fn take_row(p: Pair, a: u64, multipliers: &Multipliers, k: usize, y: usize, i: usize, j: usize, s: usize) -> Pair
-    requires { RowAt multipliers.now.counts k y i j s }
-    ensures { result ≡ taken p a (row_multiplier multipliers.now.counts multipliers.now.list.now (index k y i j s)) }
-{
-    take(
-        p,
-        a,
-        multipliers.at(Place {
-                kind: k,
-                year: y,
-                first: i,
-                second: j,
-                slice: s,
-            }),
-    )
-}
-
-// The same where a test holds; where it does not, there need not be such a row.
-pub fn add_row_if(on: bool, p: Pair, a: u64, multipliers: &Multipliers, k: usize, y: usize, i: usize, j: usize, s: usize) -> Pair
-    requires { on ≡ true → RowAt multipliers.now.counts k y i j s }
-    ensures { result ≡ added_if on p a (row_multiplier multipliers.now.counts multipliers.now.list.now (index k y i j s)) }
-{
-    if on {
-        return add_row(p, a, multipliers, k, y, i, j, s);
-    }
-    p
-}
-
-pub fn take_row_if(on: bool, p: Pair, a: u64, multipliers: &Multipliers, k: usize, y: usize, i: usize, j: usize, s: usize) -> Pair
-    requires { on ≡ true → RowAt multipliers.now.counts k y i j s }
-    ensures { result ≡ taken_if on p a (row_multiplier multipliers.now.counts multipliers.now.list.now (index k y i j s)) }
-{
-    if on {
-        return take_row(p, a, multipliers, k, y, i, j, s);
-    }
-    p
+    multipliers.at(Place {
+        kind: k,
+        year: y,
+        first: i,
+        second: j,
+        slice: s,
+    })
 }

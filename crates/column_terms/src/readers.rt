@@ -7,9 +7,9 @@ ghost use Rattle.tables.specs.Layout.{Counted};
 ghost use Rattle.column_terms.specs.Readers.{PlantTable};
 ghost use Rattle.tables.specs.Lists.{data_of};
 
-use tables::lists::{Tables, TestedTables};
 use model::Counts;
 use parts::slices::{day_of, first_hour, long, season_of};
+use tables::lists::{Tables, TestedTables};
 use tables::names::{ANNUITY, AVAILABILITY, DURATION, FUEL, KIND, LOSS, MIN_LOAD, YEAR, ZONE};
 use terms::plants::{season_hours, year_weight};
 
@@ -46,7 +46,11 @@ pub fn on_min_load_day(tables: &Tables, s: usize) -> bool
     requires { s < slices_of tables.now.counts }
     ensures { result ≡ on_min_load_day (data_of tables.now) s }
 {
-    tables.by_day(MIN_LOAD, season_of(tables.counts, s), day_of(tables.counts, s)) == 1
+    tables.by_day(
+        MIN_LOAD,
+        season_of(tables.counts, s),
+        day_of(tables.counts, s),
+    ) == 1
 }
 
 // Family 13's condition: an existing plant from its retirement year on, a candidate before its commission year.

@@ -33,6 +33,10 @@ unfolding or_else
 stopped fine g e q = let z : ◌≡◌ {A = ℕ} 0 1 = cc in absurd (omega arith)
 stopped (fault s) g e q = e
 
+-- a refusal that `?` hands on
+pub handed_on : (f g : Fault Refusal) {o p : Result (Unit {0}) Refusal} {r : Refusal} → o ≡ outcome f → o ≡ Err r → p ≡ Err r → p ≡ outcome (or_else f g)
+handed_on f g e q n = n ∙ sym q ∙ stopped f g e q
+
 pub went_on : (f g : Fault Refusal) {o : Result (Unit {0}) Refusal} → f ≡ fine → o ≡ outcome g → o ≡ outcome (or_else f g)
 unfolding or_else
 went_on f g p e = rw p e

@@ -6,13 +6,12 @@ ghost use Rattle.sums.specs.Span.{fine, or_else};
 ghost use Rattle.model.specs.Data.{counts_of, most_counts, is_battery, is_vre};
 ghost use Rattle.model.specs.Tests.{head_fault, counts_fault, length_fault, entries_fault, storage_fault, data_fault};
 ghost use Rattle.model.specs.Calls.{outcome};
-
 ghost use Rattle.tables.specs.Lists.{data_of};
 
-use tables::lists::Tables;
 use entry_tests::test_entries;
-use model::{TABLE_COUNT, Counts, Refusal};
+use model::{Counts, Refusal, TABLE_COUNT};
 use ranges::{Range, in_range};
+use tables::lists::Tables;
 use tables::starts::table_starts;
 
 // The largest that each count may be.
@@ -25,25 +24,19 @@ pub fn most_count(i: usize) -> u32
     MOST_COUNTS[i]
 }
 
-fn count(x: u32) -> usize
-    ensures { result ≡ x }
-{
-    x as usize
-}
-
 // The counts, the first seven numbers.
 pub fn counts_of(data: &[u32]) -> Counts
     requires { 7 ≤ length «data».now }
     ensures { result ≡ counts_of «data».now }
 {
     Counts {
-        zones: count(data[0]),
-        plants: count(data[1]),
-        fuels: count(data[2]),
-        seasons: count(data[3]),
-        days: count(data[4]),
-        hours: count(data[5]),
-        years: count(data[6]),
+        zones: data[0] as usize,
+        plants: data[1] as usize,
+        fuels: data[2] as usize,
+        seasons: data[3] as usize,
+        days: data[4] as usize,
+        hours: data[5] as usize,
+        years: data[6] as usize,
     }
 }
 
@@ -84,22 +77,28 @@ pub fn test_head(data: &[u32]) -> Result<(), Refusal>
     if data.len() < 7 {
         return Err(Refusal::DataLength(7));
     }
-    let counts = test_counts(data);
-    match counts {
-        Err(_) => return counts,
-        Ok(()) => {}
-    }
+    test_counts(data)?;
     test_length(data)
+}
+
+// The data that passed refusals 1 and 2, with its counts and the starts of its tables.
+pub fn lay_out<'a>(list: &'a [u32]) -> Tables<'a>
+    requires { or_else (head_fault list.now) (or_else (counts_fault list.now) (length_fault list.now)) ≡ fine }
+    ensures { result.list.now ≡ list.now }
+{
+    let counts = counts_of(list);
+    Tables {
+        list,
+        counts,
+        starts: table_starts(counts),
+    }
 }
 
 fn is_vre_battery(tables: &Tables, g: usize) -> bool
     requires { g < tables.now.counts.plants }
     ensures { result ≡ (is_battery (data_of tables.now) g && is_vre (data_of tables.now) g) }
 {
-    if tables.is_battery(g) {
-        return tables.is_vre(g);
-    }
-    false
+    tables.is_battery(g) && tables.is_vre(g)
 }
 
 // Refusal 16: the lowest plant that is a battery and has VRE set.
@@ -115,14 +114,11 @@ fn test_storage(tables: &Tables) -> Result<(), Refusal>
 }
 
 // Refusals 3 and 16: all entries before any battery.
+#[tactic(auto, using(crate::proofs::Passed::passes, crate::proofs::Passed::handed_on, crate::proofs::Passed::went_on))]
 fn test_tables(tables: &Tables) -> Result<(), Refusal>
     ensures { result ≡ outcome (or_else (entries_fault (data_of tables.now)) (storage_fault (data_of tables.now))) }
 {
-    let entries = test_entries(tables);
-    match entries {
-        Err(_) => return entries,
-        Ok(()) => {}
-    }
+    test_entries(tables)?;
     test_storage(tables)
 }
 
@@ -130,12 +126,6 @@ fn test_tables(tables: &Tables) -> Result<(), Refusal>
 pub fn test_data(data: &[u32]) -> Result<(), Refusal>
     ensures { result ≡ outcome (data_fault «data».now) }
 {
-    let head = test_head(data);
-    match head {
-        Err(_) => return head,
-        Ok(()) => {}
-    }
-    let c = counts_of(data);
-    let tables_at = table_starts(c);
-    test_tables(data, &tables_at, c)
+    test_head(data)?;
+    test_tables(&lay_out(data))
 }

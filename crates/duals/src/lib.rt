@@ -38,6 +38,18 @@ pub struct Multiplier {
     pub down: u64,
 }
 
+impl Multiplier {
+    // Of the same size, with the other sign.
+    pub fn negated(self) -> Multiplier
+        ensures { (result.up ≡ self.down) × (result.down ≡ self.up) }
+    {
+        Multiplier {
+            up: self.down,
+            down: self.up,
+        }
+    }
+}
+
 // -1 - m is never out of range, and 0 - m can be.
 pub fn parts_of(m: i64) -> Multiplier
     ensures { result ≡ multiplier_of m }
@@ -122,6 +134,7 @@ fn set_of(k: usize) -> usize
 }
 
 // A multiplier for every row, with the counts and the starts of the families.
+#[derive(Drop)]
 pub struct Multipliers<'a> {
     pub list: &'a [i64],
     pub counts: Counts,
@@ -143,6 +156,7 @@ impl Multipliers<'_> {
 }
 
 // Data whose entries are in range, with a multiplier for each of its rows: what prices the columns and makes the gap.
+#[derive(Drop)]
 pub struct Pricing<'a> {
     pub tested: TestedTables<'a>,
     pub multipliers: Multipliers<'a>,

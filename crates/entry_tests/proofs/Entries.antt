@@ -57,20 +57,20 @@ module _ {l tables-at : List ℕ} {c : Counts} (h : TablesAt l tables-at c) {b :
   next-table = omega (arith, start-more c table_sets 7 t {size = volume b} refl (ap (λ (d : Box). volume d) e))
 
   module _ {y i j s place : ℕ} (hy : y < b.years) (hi : i < b.firsts) (hj : j < b.seconds) (hs : s < b.slices) (q : place ≡ base + inside b y i j s) where
-    entry_at : EntryAt l tables-at c t (get_or table_sets t 0) y i j s
-    entry_at = record { tables_at = h; table = few; set = refl; inside = record { year = rw e at hy; «first» = rw e at hi; second = rw e at hj; slice = rw e at hs } }
+    entry_at : EntryAt table_sets c t (get_or table_sets t 0) y i j s
+    entry_at = record { table = few; set = refl; inside = record { year = rw e at hy; «first» = rw e at hi; second = rw e at hj; slice = rw e at hs } }
 
     is-place : place ≡ get_or tables-at t 0 + inside (box_of (sets c) (get_or table_sets t 0)) y i j s
     is-place = omega (arith, q, h.starts t (omega arith), ap (λ (d : Box). inside d y i j s) e)
 
     pub place-below : place < length l
-    place-below = omega (arith, is-place, entry-below entry_at)
+    place-below = omega (arith, is-place, entry-below h entry_at)
 
     -- what the test of one entry says
     pub tested : {r : Range} {ok : Bool} → ranged r ≡ range_of t (read l) y i j s → ok ≡ within (ranged r) (get_or l place 0)
         → entry_fault (read l) (index t y i j s) ≡ unless ok (Entry place)
     unfolding entry_fault
     tested {r} {ok} w o =
-        let v : get_or l place 0 ≡ (read l).entry t y i j s = ap (λ (n : ℕ). get_or l n 0) is-place ∙ entry-is entry_at in
-        let n : place ≡ place_of (read l).counts (index t y i j s) = is-place ∙ entry-place entry_at in
+        let v : get_or l place 0 ≡ (read l).entry t y i j s = ap (λ (n : ℕ). get_or l n 0) is-place ∙ entry-is h entry_at in
+        let n : place ≡ place_of (read l).counts (index t y i j s) = is-place ∙ entry-place h entry_at in
         rw (o, ← w, ← v, ← n)

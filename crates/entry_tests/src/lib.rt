@@ -4,12 +4,11 @@
 ghost use Rattle.std.specs.Prelude.{◌≡◌};
 ghost use Rattle.model.specs.Tests.{entries_fault};
 ghost use Rattle.model.specs.Calls.{outcome};
-
 ghost use Rattle.tables.specs.Lists.{data_of};
 
-use tables::lists::Tables;
-use model::{TABLE_COUNT, Refusal};
+use model::{Refusal, TABLE_COUNT};
 use ranges::{in_range, range_at};
+use tables::lists::Tables;
 use tables::starts::table_box;
 
 // Refusal 3: every entry in the order of the list, left at the first that is out of range.

@@ -1,11 +1,11 @@
 // Numbers of the data list, a plant of it, and the scale, in words.
 #![tactic(auto)]
 
-ghost use Rattle.std.specs.Prelude.{◌≤◌};
+ghost use Rattle.std.specs.Prelude.{◌≡◌, ◌≤◌};
 ghost use Rattle.sums.specs.Index.{Member, index_of};
 ghost use Rattle.model.specs.Data.{table_boxes, read};
 ghost use Rattle.tables.specs.Layout.{Counted};
-ghost use Rattle.writer.specs.Writing.{Started, Said};
+ghost use Rattle.writer.specs.Writing.{room, added};
 ghost use Rattle.sentences.specs.Asked.{OfCount, OfEntry};
 ghost use Rattle.sentences.specs.Sentences.{entry_words, figure_words, shape_words, scale_words, out_of_range_words, storage_words};
 
@@ -18,77 +18,122 @@ use sentences::say_range;
 use sums::Place;
 use tables::entries::number_at;
 use tables::starts::table_set;
-use writer::{ROOM, say, say_name, say_with};
+use writer::{Line, ROOM};
+
+// The seven counts, in their order.
+const COUNT_NAMES: [&str; 7] = [
+    "zones", "plants", "fuels", "seasons", "days", "hours", "years",
+];
+
+// The tables of the data, by number.
+const TABLE_NAMES: [&str; 48] = [
+    "R",
+    "V",
+    "Dur",
+    "minimum-load day",
+    "zone",
+    "fuel",
+    "kind",
+    "VRE",
+    "GenCap",
+    "year",
+    "MaxNewCap",
+    "OverLoad",
+    "ResOffer",
+    "RampDn",
+    "RampUp",
+    "MinCapFac",
+    "CapCredit",
+    "HeatRate",
+    "E",
+    "ResCost",
+    "Availability",
+    "Profile",
+    "Annuity",
+    "FixedOM",
+    "GenCost",
+    "Demand",
+    "EE",
+    "SRes",
+    "PRM",
+    "TL",
+    "Loss",
+    "zone cap",
+    "system cap",
+    "Tax",
+    "MaxFuel",
+    "BuildLimit",
+    "VOLL",
+    "SurplusPenalty",
+    "RESVoLL",
+    "SRESVoLL",
+    "Err",
+    "MaxCapital",
+    "battery",
+    "efficiency",
+    "energy capacity",
+    "line limit",
+    "MW per line",
+    "line annuity",
+];
 
 // An entry's place in the list, table and indices.
-fn say_entry(line: &mut [u8; ROOM], at: usize, c: Counts, entry: usize, p: Place) -> usize
-    requires { Started line.old at × (Counted c × Member (table_boxes c) (index_of p)) }
-    ensures { Said line.old at (entry_words c entry (index_of p)) result line.new }
+fn say_entry(line: &mut Line<ROOM>, c: Counts, entry: usize, p: Place)
+    requires { Counted c × Member (table_boxes c) (index_of p) }
+    ensures { line.new ≡ added room line.old (entry_words c entry (index_of p)) }
 {
-    let table = p.kind;
-    let set = table_set(table);
-    let numbered = say_with(line, at, b"entry ", entry as u64);
-    let listed = say(line, numbered, b" of DATA, ");
-    let named = say_name(
-        line,
-        listed,
-        b"R/V/Dur/minimum-load day/zone/fuel/kind/VRE/GenCap/year/MaxNewCap/OverLoad/ResOffer/RampDn/RampUp/MinCapFac/CapCredit/HeatRate/E/ResCost/Availability/Profile/Annuity/FixedOM/GenCost/Demand/EE/SRes/PRM/TL/Loss/zone cap/system cap/Tax/MaxFuel/BuildLimit/VOLL/SurplusPenalty/RESVoLL/SRESVoLL/Err/MaxCapital/battery/efficiency/energy capacity/line limit/MW per line/line annuity",
-        table,
-    );
-    say_place(line, named, c, set, p)
+    let set = table_set(p.kind);
+    line.say_with(b"entry ", entry as u64);
+    line.say(b" of DATA, ");
+    line.say_name(&TABLE_NAMES, p.kind);
+    say_place(line, c, set, p);
 }
 
-fn say_figures(line: &mut [u8; ROOM], at: usize, figures: EntryFigures) -> usize
-    requires { Started line.old at }
-    ensures { Said line.old at (figure_words figures) result line.new }
+#[tactic(auto, unfolding(sentences::specs::Sentences::figure_words))]
+fn say_figures(line: &mut Line<ROOM>, figures: EntryFigures)
+    ensures { line.new ≡ added room line.old (figure_words figures) }
 {
-    say_range(line, at, figures.entry, figures.least, figures.most)
+    say_range(line, figures.entry, figures.least, figures.most);
 }
 
 // An entry out of its range.
-pub fn say_out_of_range(line: &mut [u8; ROOM], at: usize, data: &[u32], entry: usize) -> usize
-    requires { Started line.old at × OfEntry «data».now entry }
-    ensures { Said line.old at (out_of_range_words (read «data».now) entry) result line.new }
+pub fn say_out_of_range(line: &mut Line<ROOM>, data: &[u32], entry: usize)
+    requires { OfEntry «data».now entry }
+    ensures { line.new ≡ added room line.old (out_of_range_words (read «data».now) entry) }
 {
     let c = counts_of(data);
     let p = entry_place(c, entry);
     let range = entry_figures(data, p, entry);
-    let placed = say_entry(line, at, c, entry, p);
-    say_figures(line, placed, range)
+    say_entry(line, c, entry, p);
+    say_figures(line, range);
 }
 
 // A battery with VRE set.
-pub fn say_storage(line: &mut [u8; ROOM], at: usize, plant: usize) -> usize
-    requires { Started line.old at × (plant ≤ 1000) }
-    ensures { Said line.old at (storage_words plant) result line.new }
+pub fn say_storage(line: &mut Line<ROOM>, plant: usize)
+    requires { plant ≤ 1000 }
+    ensures { line.new ≡ added room line.old (storage_words plant) }
 {
-    let named = say_counted(line, at, b"plant ", plant);
-    say(line, named, b" is a battery and has VRE set")
+    say_counted(line, b"plant ", plant);
+    line.say(b" is a battery and has VRE set");
 }
 
 // A count out of its range.
-pub fn say_shape(line: &mut [u8; ROOM], at: usize, data: &[u32], count: usize) -> usize
-    requires { Started line.old at × OfCount «data».now count }
-    ensures { Said line.old at (shape_words «data».now count) result line.new }
+pub fn say_shape(line: &mut Line<ROOM>, data: &[u32], count: usize)
+    requires { OfCount «data».now count }
+    ensures { line.new ≡ added room line.old (shape_words «data».now count) }
 {
     let is = number_at(data, count);
     let most = most_count(count) as u64;
-    let numbered = say_with(line, at, b"entry ", count as u64);
-    let listed = say(line, numbered, b" of DATA, the number of ");
-    let named = say_name(
-        line,
-        listed,
-        b"zones/plants/fuels/seasons/days/hours/years",
-        count,
-    );
-    say_range(line, named, is, 1, most)
+    line.say_with(b"entry ", count as u64);
+    line.say(b" of DATA, the number of ");
+    line.say_name(&COUNT_NAMES, count);
+    say_range(line, is, 1, most);
 }
 
 // N out of its range.
-pub fn say_scale(line: &mut [u8; ROOM], at: usize, scale: u32) -> usize
-    requires { Started line.old at }
-    ensures { Said line.old at (scale_words scale) result line.new }
+pub fn say_scale(line: &mut Line<ROOM>, scale: u32)
+    ensures { line.new ≡ added room line.old (scale_words scale) }
 {
-    let named = say(line, at, b"N");
-    say_range(line, named, scale as u64, 1, 1000)
+    line.say(b"N");
+    say_range(line, scale as u64, 1, 1000);
 }

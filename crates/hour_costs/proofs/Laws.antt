@@ -1,30 +1,29 @@
 -- Laws of the cost of the tables priced by the hour. Assumes nothing.
 use mathlib.Core.Path.{◌≡◌, refl, sym, ◌∙◌, ap}
-use mathlib.Core.List.{List}
+use mathlib.Core.List.{List, [], ◌∷◌}
 use Prim.Native.Nat.{ℕ, ◌+◌, ◌*◌, ◌-◌, ◌≤◌, ◌<◌}
 use native.Mathlib.Nat.{mul_comm, mul_assoc, mul_left_comm, mul-pos}
 use native.Mathlib.Omega.{arith}
 use lib.ListN.{length, get_or, take, drop, length-take, length-drop}
 use lib.Seq.{get_or-take, get_or-drop}
-use Rattle.capped.specs.Cap.{cap, both, times, times_both, Sum}
-use Rattle.capped.proofs.Laws.{both-cap, times-cap, times-both}
+use Rattle.capped.specs.Cap.{cap, times, times_both, Sum}
+use Rattle.capped.proofs.Laws.{times-cap, times-both}
 use Rattle.sums.specs.Sum.{sum}
 use Rattle.sums.specs.Index.{Index, index, box_of, inside}
+use Rattle.sums.proofs.ByKind.{◌▹◌}
 use Rattle.sums.proofs.Sums.{sum-cong, sum-scale}
 use Rattle.model.specs.declared.Counts.{Counts}
 use Rattle.model.specs.Counts.{sets, slices_of}
 use Rattle.model.specs.Data.{Data, duration}
+use Rattle.model.specs.Columns.{column_sets}
 use Rattle.model.specs.Prices.{year_weight}
-use Rattle.tables.specs.Layout.{Inside, plan_entry, EntryAt}
+use Rattle.tables.specs.declared.lists.Plan.{Plan}
+use Rattle.tables.specs.Layout.{Inside, EntryAt}
+use Rattle.tables.specs.Lists.{entry_of}
 use Rattle.tables.proofs.Laws.{column_place, column-below, column-is}
-use Rattle.unit_prices.specs.Prices.{Hourly, set_of, hour_price}
-use Rattle.hour_costs.specs.Costs.{Hours, slices_cost}
+use Rattle.unit_prices.specs.Prices.{Hourly, gen, reserve, unmet, surplus, spinshort, set_of, hour_price}
+use Rattle.hour_costs.specs.Costs.{Hours, slices_cost, hourly_cost, hours_cost}
 use Rattle.column_prices.proofs.Laws.{by-hour}
-
--- Capped sums
-
-pub joined : {r s t : Sum} (m n : ℕ) → r ≡ both s t → s ≡ cap m → t ≡ cap n → r ≡ cap (m + n)
-joined m n e p q = e ∙ rw (p, q) (both-cap m n)
 
 -- The tables priced by the hour
 
@@ -47,38 +46,57 @@ module _ (D : Data) (c : Counts) (x : Index → ℕ) {t : ℕ} (h : Hourly t) (y
       er ∙ rw (eq, ep, ew, em, times-cap (hour_price D t y i) (year_weight D y)) (times-both per_hour hours ∙ ap cap hours-cost)
 
 -- The part of the plan that holds the slices of plant or zone i in year y
-module _ {plan columns-at : List ℕ} {c : Counts} {t y i : ℕ} (m : Hours plan columns-at c t y i) where
-  pub slices-inside : {k s : ℕ} → k ≡ set_of t → s < slices_of c → Inside c k y i 0 s
+module _ (plan : Plan) {t y i : ℕ} (m : Hours plan.counts t y i) where
+  pub slices-inside : {k s : ℕ} → k ≡ set_of t → s < slices_of plan.counts → Inside plan.counts k y i 0 s
   slices-inside e l = rw e (record {
-    year = rw ((by-hour m.table).own c) m.year;
+    year = rw ((by-hour m.table).own plan.counts) m.year;
     «first» = m.first;
-    second = rw ((by-hour m.table).own c) (omega arith);
-    slice = rw ((by-hour m.table).own c) l;
+    second = rw ((by-hour m.table).own plan.counts) (omega arith);
+    slice = rw ((by-hour m.table).own plan.counts) l;
   })
 
-  pub some-slices : 0 < slices_of c
-  some-slices = mul-pos (mul-pos m.counted.some_seasons m.counted.some_days) m.counted.some_hours
+  pub some-slices : 0 < slices_of plan.counts
+  some-slices = mul-pos (mul-pos plan.counted.some_seasons plan.counted.some_days) plan.counted.some_hours
 
-  column : {s : ℕ} → s < slices_of c → PlanEntryAt plan columns-at c t (set_of t) y i 0 s
-  column l = record { columns_at = m.columns_at; counted = m.counted; table = (by-hour m.table).below; set = refl; inside = slices-inside refl l }
+  column : {s : ℕ} → s < slices_of plan.counts → EntryAt column_sets plan.counts t (set_of t) y i 0 s
+  column l = record { table = (by-hour m.table).below; set = refl; inside = slices-inside refl l }
 
   -- the code has the index set's code k, the place o of the first slice inside the table, and the number n of slices in locals
-  module _ {k o n : ℕ} (ek : k ≡ set_of t) (eo : o ≡ inside (box_of (sets c) k) y i 0 0) (en : n ≡ slices_of c) where
-    place_is : {s : ℕ} (l : s < slices_of c) → get_or columns-at t 0 + o + s ≡ column_place (column l)
+  module _ {k o n : ℕ} (ek : k ≡ set_of t) (eo : o ≡ inside (box_of (sets plan.counts) k) y i 0 0) (en : n ≡ slices_of plan.counts) where
+    place_is : {s : ℕ} (l : s < slices_of plan.counts) → get_or plan.starts t 0 + o + s ≡ column_place plan.laid_out (column l)
     place_is l = rw (eo, ek) (omega arith)
 
-    pub slices-fit : get_or columns-at t 0 + o + n ≤ length plan
+    pub slices-fit : get_or plan.starts t 0 + o + n ≤ length plan.list.now
     slices-fit =
-        let last : slices_of c - 1 < slices_of c = omega (arith, some-slices) in
-        omega (arith, en, place_is last, column-below (column last))
+        let last : slices_of plan.counts - 1 < slices_of plan.counts = omega (arith, some-slices) in
+        omega (arith, en, place_is last, column-below plan.laid_out (column last))
 
     abbrev pub slices : List ℕ
-    slices = take n (drop (get_or columns-at t 0 + o) plan)
+    slices = take n (drop (get_or plan.starts t 0 + o) plan.list.now)
 
-    pub slices-are : (length slices ≡ slices_of c) × ((s : ℕ) → s < slices_of c → get_or slices s 0 ≡ plan_entry c plan (index t y i 0 s))
+    pub slices-are : (length slices ≡ slices_of plan.counts) × ((s : ℕ) → s < slices_of plan.counts → get_or slices s 0 ≡ entry_of plan (index t y i 0 s))
     slices-are = (
-      omega (arith, length-take n (drop (get_or columns-at t 0 + o) plan), length-drop (get_or columns-at t 0 + o) plan, slices-fit),
+      omega (arith, length-take n (drop (get_or plan.starts t 0 + o) plan.list.now), length-drop (get_or plan.starts t 0 + o) plan.list.now, slices-fit),
       λ s l.
-          get_or-take n (drop (get_or columns-at t 0 + o) plan) s 0 (omega arith)
-          ∙ get_or-drop (get_or columns-at t 0 + o) plan s 0 ∙ ap (λ (p : ℕ). get_or plan p 0) (place_is l) ∙ column-is (column l),
+          get_or-take n (drop (get_or plan.starts t 0 + o) plan.list.now) s 0 (omega arith)
+          ∙ get_or-drop (get_or plan.starts t 0 + o) plan.list.now s 0 ∙ ap (λ (p : ℕ). get_or plan.list.now p 0) (place_is l) ∙ column-is plan.laid_out (column l),
     )
+
+-- All tables priced by the hour
+
+-- in their order
+abbrev pub hourly : List ℕ
+hourly = 3 ∷ 4 ∷ 6 ∷ 7 ∷ 8 ∷ []
+
+pub hourly-at : (k : ℕ) → k < 5 → Hourly (get_or hourly k 0)
+hourly-at =
+    (λ i l. absurd (omega arith))
+    ▹ gen
+    ▹ reserve
+    ▹ unmet
+    ▹ surplus
+    ▹ spinshort
+
+pub hours-sum : (D : Data) (c : Counts) (x : Index → ℕ) (y : ℕ) → sum 5 (λ k. hourly_cost D c x (get_or hourly k 0) y) ≡ hours_cost D c x y
+unfolding sum hours_cost
+hours-sum D c x y = omega arith

@@ -1,12 +1,11 @@
 -- The cost year by year, as the code sums it: the tables priced by the hour, and those priced by the year: cap, firmshort and total.
-use Rattle.std.specs.Prelude.{List, ℕ, ◌+◌, ◌*◌, ◌<◌}
+use Rattle.std.specs.Prelude.{ℕ, ◌+◌, ◌*◌, ◌<◌}
 use Rattle.sums.specs.Sum.{sum}
 use Rattle.sums.specs.Index.{Index, index}
 use Rattle.model.specs.declared.Counts.{Counts}
 use Rattle.model.specs.Counts.{slices_of}
 use Rattle.model.specs.Data.{Data}
 use Rattle.model.specs.Prices.{price}
-use Rattle.tables.specs.Layout.{Counted, ColumnsAt}
 use Rattle.unit_prices.specs.Prices.{Hourly, firsts_of, seconds_of}
 
 -- the kinds of column that are priced by the year: each of their columns has one slice
@@ -16,9 +15,7 @@ pub data Yearly : ℕ → Type 0 where
   of_total : Yearly 13
 
 -- the columns of plant or zone i in year y of table t can be read
-pub record Hours (plan columns-at : List ℕ) (c : Counts) (t y i : ℕ) : Type 0 where
-  pub columns_at : ColumnsAt plan columns-at c
-  pub counted : Counted c
+pub record Hours (c : Counts) (t y i : ℕ) : Type 0 where
   pub table : Hourly t
   pub year : y < c.years
   pub «first» : i < firsts_of c t

@@ -17,25 +17,20 @@ use tables::names::{DURATION, GEN, RESERVE, SPINSHORT, SURPLUS, UNMET};
 use tables::sets::{inside_of, slices_of};
 use tables::starts::{column_box, column_set};
 use terms::plants::year_weight;
+use terms::totals::total;
 use unit_prices::hour_price;
 
 // The slices of plant or zone i in year y: a part of the plan.
-fn slices_at<'a>(plan: &Plan, t: usize, y: usize, i: usize) -> &'a [u32]
-    requires { Hours plan.now.list.now columns_at.now plan.now.counts t y i }
+#[tactic(auto, using(column_prices::proofs::Laws::column_laws))]
+fn slices_at<'a>(plan: &Plan<'a>, t: usize, y: usize, i: usize) -> &'a [u32]
+    requires { Hours plan.now.counts t y i }
     ensures { (length result.now ≡ slices_of plan.now.counts) × ((s : ℕ) → s < slices_of plan.now.counts → get_or result.now s 0 ≡ entry_of plan.now (index t y i 0 s)) }
 {
     let n = slices_of(plan.counts);
     let first = inside_of(plan.counts, column_set(t), y, i, 0, 0);
-    part_of(plan, plan.starts[t] + first, n)
-}
-
-// n entries of a list.
-fn part_of(list: &[u32], start: usize, n: usize) -> &[u32]
-    requires { start + n ≤ length list.now }
-    ensures { result.now ≡ take n (drop start list.now) }
-{
+    let start = plan.starts[t] + first;
     let end = start + n;
-    &list[start..end]
+    &plan.list[start..end]
 }
 
 // Σ Dur·entry over the slices of a part.
@@ -44,19 +39,15 @@ fn weighted_hours(tables: &Tables, part: &[u32]) -> Sum
     ensures { result ≡ cap (sum (slices_of tables.now.counts) (λ s. duration (data_of tables.now) s * get_or part.now s 0)) }
 {
     let mut total = capped::zero();
-    for s in 0..part.len() {
-        total = capped::add_product(
-            total,
-            tables.by_slice(DURATION, s),
-            wide(part[s]),
-        );
+    for (s, entry) in part.iter().enumerate() {
+        total = capped::add_product(total, tables.by_slice(DURATION, s), wide(*entry));
     }
     total
 }
 
 // Σ price·entry over the slices of plant or zone i in year y: the hours are summed first and priced once.
 fn slices_cost(case: &Case, t: usize, y: usize, i: usize) -> Sum
-    requires { Hours case.now.plan.list.now columns_at.now case.now.plan.counts t y i }
+    requires { Hours case.now.plan.counts t y i }
     ensures { result ≡ cap (slices_cost (data_of case.now.tables) case.now.plan.counts (entry_of case.now.plan) t y i) }
 {
     let share = year_weight(&case.tables, y);
@@ -71,36 +62,16 @@ fn hourly_cost(case: &Case, t: usize, y: usize) -> Sum
     ensures { result ≡ cap (hourly_cost (data_of case.now.tables) case.now.plan.counts (entry_of case.now.plan) t y) }
 {
     let b = column_box(case.plan.counts, t);
-    let mut total = capped::zero();
-    for i in 0..b.firsts {
-        total = capped::join(
-            total,
-            slices_cost(case, t, y, i),
-        );
-    }
-    total
+    total(b.firsts, |i| slices_cost(case, t, y, i))
 }
+
+// The kinds of column that are priced by the hour.
+const HOURLY: [usize; 5] = [GEN, RESERVE, UNMET, SURPLUS, SPINSHORT];
 
 // Σ price·entry of all tables priced by the hour, in year y.
 pub fn hours_cost(case: &Case, y: usize) -> Sum
     requires { y < case.now.plan.counts.years }
     ensures { result ≡ cap (hours_cost (data_of case.now.tables) case.now.plan.counts (entry_of case.now.plan) y) }
 {
-    let output = hourly_cost(case, GEN, y);
-    let with_reserve = capped::join(
-        output,
-        hourly_cost(case, RESERVE, y),
-    );
-    let with_unmet = capped::join(
-        with_reserve,
-        hourly_cost(case, UNMET, y),
-    );
-    let with_surplus = capped::join(
-        with_unmet,
-        hourly_cost(case, SURPLUS, y),
-    );
-    capped::join(
-        with_surplus,
-        hourly_cost(case, SPINSHORT, y),
-    )
+    total(HOURLY.len(), |k| hourly_cost(case, HOURLY[k], y))
 }

@@ -1,84 +1,120 @@
 // The indices of a row, a column or an entry in words, each counted from 1.
 #![tactic(auto)]
 
-ghost use Rattle.std.specs.Prelude.{◌++◌, ◌+◌, ◌≤◌};
+ghost use Rattle.std.specs.Prelude.{◌≡◌, [], ◌++◌, ◌+◌, ◌≤◌, get_or, map};
 ghost use Rattle.sums.specs.Index.{index_of};
 ghost use Rattle.tables.specs.Layout.{Counted};
-ghost use Rattle.answer_line.specs.Line.{decimal};
-ghost use Rattle.writer.specs.Writing.{Started, Said};
-ghost use Rattle.index_words.specs.Indices.{slice_words, index_words, letters_words, place_words, Low};
+ghost use Rattle.writer.specs.Decimal.{decimal};
+ghost use Rattle.writer.specs.Writing.{room, added};
+ghost use Rattle.index_words.specs.Indices.{slice_words, index_words, indices_words, place_words, Low};
 
 use model::Counts;
 use places::slice_at;
 use sums::Place;
-use writer::{ROOM, name_part, say_with};
+use writer::{Line, ROOM};
 
-// The index sets by code, each as the letters of its indices (specs/Indices.antt), with a slash between them.
-const SET_LETTERS: [u8; 59] = *b"yzs/yzws/yz/ygs/ygq/yg/g/yzf//y/s/md/gq/gs/z/yzwq/yzw/yf/zw";
+// What an index stands for.
+#[derive(Clone, Copy, Debug, PartialEq, Eq)]
+enum Meaning {
+    Year,
+    Zone,
+    SecondZone,
+    Plant,
+    Fuel,
+    Slice,
+    Season,
+    LoadSeason,
+    LoadDay,
+}
+
+use Meaning::{Fuel, LoadDay, LoadSeason, Plant, Season, SecondZone, Slice, Year, Zone};
+
+// The index sets by code, each as what its indices stand for.
+const SETS: [&[Meaning]; 19] = [
+    &[Year, Zone, Slice],
+    &[Year, Zone, SecondZone, Slice],
+    &[Year, Zone],
+    &[Year, Plant, Slice],
+    &[Year, Plant, Season],
+    &[Year, Plant],
+    &[Plant],
+    &[Year, Zone, Fuel],
+    &[],
+    &[Year],
+    &[Slice],
+    &[LoadSeason, LoadDay],
+    &[Plant, Season],
+    &[Plant, Slice],
+    &[Zone],
+    &[Year, Zone, SecondZone, Season],
+    &[Year, Zone, SecondZone],
+    &[Year, Fuel],
+    &[Zone, SecondZone],
+];
 
 // Words, and an index counted from 0 as one counted from 1.
-pub fn say_counted(line: &mut [u8; ROOM], at: usize, words: &[u8], index: usize) -> usize
-    requires { Started line.old at × (index ≤ 1000) }
-    ensures { Said line.old at (words.now ++ decimal (index + 1)) result line.new }
+pub fn say_counted(line: &mut Line<ROOM>, words: &[u8], index: usize)
+    requires { index ≤ 1000 }
+    ensures { line.new ≡ added room line.old (words.now ++ decimal (index + 1)) }
 {
-    say_with(line, at, words, index as u64 + 1)
+    line.say_with(words, index as u64 + 1);
 }
 
 // A slice by its season, its day and its hour.
-fn say_slice(line: &mut [u8; ROOM], at: usize, c: Counts, s: usize) -> usize
-    requires { Started line.old at × (Counted c × (s ≤ 1000)) }
-    ensures { Said line.old at (slice_words c s) result line.new }
+fn say_slice(line: &mut Line<ROOM>, c: Counts, s: usize)
+    requires { Counted c × (s ≤ 1000) }
+    ensures { line.new ≡ added room line.old (slice_words c s) }
 {
     let slice = slice_at(c, s);
-    let season = slice.season;
-    let day = slice.day;
-    let hour = slice.hour;
-    let after_season = say_counted(line, at, b", season ", season);
-    let after_day = say_counted(line, after_season, b", day ", day);
-    say_counted(line, after_day, b", hour ", hour)
+    say_counted(line, b", season ", slice.season);
+    say_counted(line, b", day ", slice.day);
+    say_counted(line, b", hour ", slice.hour);
 }
 
-// The index that a letter stands for.
-fn say_index(line: &mut [u8; ROOM], at: usize, c: Counts, p: Place, letter: u8) -> usize
-    requires { Started line.old at × (Counted c × Low p) }
-    ensures { Said line.old at (index_words c (index_of p) letter) result line.new }
+// An index, by what it stands for.
+#[tactic(auto, unfolding(crate::specs::Indices::index_words))]
+fn say_index(line: &mut Line<ROOM>, c: Counts, p: Place, meaning: Meaning)
+    requires { Counted c × Low p }
+    ensures { line.new ≡ added room line.old (index_words c (index_of p) meaning) }
 {
-    match letter {
-        b'y' => say_counted(line, at, b", year ", p.year),
-        b'z' => say_counted(line, at, b", zone ", p.first),
-        b'w' => say_counted(line, at, b", to zone ", p.second),
-        b'g' => say_counted(line, at, b", plant ", p.first),
-        b'f' => say_counted(line, at, b", fuel ", p.second),
-        b'q' => say_counted(line, at, b", season ", p.slice),
-        b'm' => say_counted(line, at, b", season ", p.first),
-        b'd' => say_counted(line, at, b", day ", p.second),
-        b's' => say_slice(line, at, c, p.slice),
-        _ => at, // never reached: SET_LETTERS has no other letter (the law `letters-known`)
+    match meaning {
+        Year => say_counted(line, b", year ", p.year),
+        Zone => say_counted(line, b", zone ", p.first),
+        SecondZone => say_counted(line, b", to zone ", p.second),
+        Plant => say_counted(line, b", plant ", p.first),
+        Fuel => say_counted(line, b", fuel ", p.second),
+        Slice => say_slice(line, c, p.slice),
+        Season => say_counted(line, b", season ", p.slice),
+        LoadSeason => say_counted(line, b", season ", p.first),
+        LoadDay => say_counted(line, b", day ", p.second),
     }
 }
 
-// The indices of several letters, one behind another.
-fn say_letters(line: &mut [u8; ROOM], at: usize, c: Counts, p: Place, letters: &[u8]) -> usize
-    requires { Started line.old at × (Counted c × Low p) }
-    ensures { Said line.old at (letters_words c (index_of p) letters.now) result line.new }
+// Several indices, one behind another.
+fn say_indices(line: &mut Line<ROOM>, c: Counts, p: Place, meanings: &[Meaning])
+    requires { Counted c × Low p }
+    ensures { line.new ≡ added room line.old (indices_words c (index_of p) meanings.now) }
 {
-    let mut next = at;
-    let mut i = 0;
-    while i < letters.len() {
-        next = say_index(line, next, c, p, letters[i]);
-        i += 1;
+    for meaning in meanings {
+        say_index(line, c, p, *meaning);
     }
-    next
+}
+
+// The indices of the set of number `set`.
+fn say_set(line: &mut Line<ROOM>, c: Counts, p: Place, sets: &[&[Meaning]], set: usize)
+    requires { Counted c × Low p }
+    ensures { line.new ≡ added room line.old (indices_words c (index_of p) (get_or (map (λ meanings. meanings.now) sets.now) set [])) }
+{
+    if let Some(meanings) = sets.get(set) {
+        say_indices(line, c, p, meanings);
+    }
 }
 
 // The indices of a member of the index set of a code.
-pub fn say_place(line: &mut [u8; ROOM], at: usize, c: Counts, set: usize, p: Place) -> usize
-    requires { Started line.old at × (Counted c × Low p) }
-    ensures { Said line.old at (place_words c set (index_of p)) result line.new }
+#[tactic(auto, unfolding(crate::specs::Indices::place_words))]
+pub fn say_place(line: &mut Line<ROOM>, c: Counts, set: usize, p: Place)
+    requires { Counted c × Low p }
+    ensures { line.new ≡ added room line.old (place_words c set (index_of p)) }
 {
-    let letters = SET_LETTERS;
-    let part = name_part(&letters, set);
-    let from = part.from;
-    let end = part.end;
-    say_letters(line, at, c, p, &letters[from..end])
+    say_set(line, c, p, &SETS, set);
 }

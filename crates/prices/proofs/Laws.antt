@@ -1,24 +1,25 @@
 -- Laws of the cost. Assumes nothing.
 use mathlib.Core.Path.{◌≡◌, refl, sym, ◌∙◌, ap}
-use mathlib.Core.List.{List}
-use Prim.Native.Nat.{ℕ, ◌*◌, ◌<◌}
+use mathlib.Core.List.{List, [], ◌∷◌}
+use Prim.Native.Nat.{ℕ, ◌+◌, ◌*◌, ◌<◌}
 use native.Mathlib.Nat.{zero-add, add-zero, add_assoc, zero-mul}
 use native.Mathlib.Omega.{arith}
+use lib.ListN.{get_or}
 use Rattle.capped.specs.Cap.{cap, times, Sum}
 use Rattle.capped.proofs.Laws.{times-cap}
 use Rattle.sums.specs.Sum.{sum}
-use Rattle.sums.specs.Index.{Index, index, box_of, inside}
-use Rattle.sums.proofs.ByKind.{terms}
+use Rattle.sums.specs.Index.{Index, index, box_of}
+use Rattle.sums.proofs.ByKind.{terms, ◌▹◌}
 use Rattle.sums.proofs.Sums.{sum-add, sum-single, sum-const-zero}
 use Rattle.model.specs.declared.Counts.{Counts}
 use Rattle.model.specs.Counts.{sets}
 use Rattle.model.specs.Data.{Data}
-use Rattle.model.specs.Columns.{column_boxes, column_kind_count}
+use Rattle.model.specs.Columns.{column_boxes, column_sets, column_kind_count}
 use Rattle.model.specs.Prices.{price, cost}
-use Rattle.tables.specs.Layout.{Counted, ColumnsAt, EntryAt}
+use Rattle.tables.specs.Layout.{EntryAt}
 use Rattle.unit_prices.specs.Prices.{set_of, firsts_of, seconds_of}
 use Rattle.column_prices.specs.Factors.{unit_price}
-use Rattle.hour_costs.specs.Costs.{Yearly, of_cap, of_firmshort, of_total, hours_cost, year_cost}
+use Rattle.hour_costs.specs.Costs.{Yearly, of_cap, of_firmshort, of_total, yearly_cost, hours_cost, year_cost}
 
 -- The tables priced by the year
 
@@ -36,11 +37,8 @@ by-year of_firmshort = record { below = omega arith; every_year = λ c. refl; on
 by-year of_total = record { below = omega arith; every_year = λ c. refl; one_slice = λ c. refl; priced = λ D y i j. refl }
 
 -- a column of one of them can be read
-pub yearly-entry : {plan columns-at : List ℕ} {c : Counts} {t k y i j : ℕ} → Yearly t → ColumnsAt plan columns-at c → Counted c → k ≡ set_of t → y < c.years
-    → i < firsts_of c t → j < seconds_of c t → PlanEntryAt plan columns-at c t k y i j 0
-yearly-entry {c} h at few e hy hi hj = record {
-  columns_at = at;
-  counted = few;
+pub yearly-entry : {c : Counts} {t k y i j : ℕ} → Yearly t → k ≡ set_of t → y < c.years → i < firsts_of c t → j < seconds_of c t → EntryAt column_sets c t k y i j 0
+yearly-entry {c} h e hy hi hj = record {
   table = (by-year h).below;
   set = sym e;
   inside = rw e (record { year = rw ((by-year h).every_year c) hy; «first» = hi; second = hj; slice = rw ((by-year h).one_slice c) (omega arith) });
@@ -87,3 +85,22 @@ unfolding cost column_boxes year_cost hours_cost
 cost-by-year D c x e =
     rw (← e)
     (sum-kinds _ ∙ simp (sum-single, build-free, retire-free, trans-free, charge-free, level-free, built-free, zero-mul, sum-const-zero, sum-add, zero-add, add-zero, add_assoc))
+
+-- All tables priced by the year
+
+-- in their order
+abbrev pub yearly : List ℕ
+yearly = 0 ∷ 9 ∷ 13 ∷ []
+
+pub yearly-at : (k : ℕ) → k < 3 → Yearly (get_or yearly k 0)
+yearly-at =
+    (λ i l. absurd (omega arith))
+    ▹ of_cap
+    ▹ of_firmshort
+    ▹ of_total
+
+pub year-sum : (D : Data) (c : Counts) (x : Index → ℕ) (y : ℕ) → sum 3 (λ k. yearly_cost D c x (get_or yearly k 0) y) + hours_cost D c x y ≡ year_cost D c x y
+unfolding sum year_cost
+year-sum D c x y = omega arith
+
+pub ruleset year_laws = (by-year, yearly-at)

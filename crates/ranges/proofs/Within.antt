@@ -7,7 +7,6 @@ use lib.Seq.{get_or-set_other}
 use Rattle.model.specs.Data as spec
 use Rattle.model.specs.Data.{Data, Table, tables, all, ◌to◌}
 use Rattle.tables.proofs.Laws.{NoneAmong, none-among}
-use Rattle.ranges.specs.declared.Range.{Range}
 use Rattle.ranges.specs.Ranges.{ranged, fixed, by_index, range_of}
 
 -- a list with its own entries at some places

@@ -6,12 +6,14 @@ ghost use Rattle.sums.specs.Index.{box_of};
 ghost use Rattle.model.specs.Counts.{sets};
 ghost use Rattle.model.specs.Data.{within, either, ◌to◌, most32, table_count};
 ghost use Rattle.tables.specs.Layout.{table_sets};
-ghost use Rattle.ranges.specs.Ranges.{ranged, fixed, by_index, range_of};
 ghost use Rattle.tables.specs.Lists.{data_of};
+ghost use Rattle.ranges.specs.Ranges.{ranged, fixed, by_index, range_of};
 
-use tables::lists::Tables;
 use model::TABLE_COUNT;
-use tables::names::{FUEL, GEN_CAP, LINE_ANNUITY, LINE_LIMIT, MAX_NEW_CAP, MW_PER_LINE, TL, YEAR, ZONE};
+use tables::lists::Tables;
+use tables::names::{
+    FUEL, GEN_CAP, LINE_ANNUITY, LINE_LIMIT, MAX_NEW_CAP, MW_PER_LINE, TL, YEAR, ZONE,
+};
 
 #[derive(Clone, Copy)]
 pub struct Range {
@@ -22,10 +24,7 @@ pub struct Range {
 pub fn in_range(r: Range, x: u32) -> bool
     ensures { result ≡ within (ranged r) x }
 {
-    if x < r.least {
-        return false;
-    }
-    x <= r.most
+    r.least <= x && x <= r.most
 }
 
 const ANY: Range = Range {
@@ -141,20 +140,7 @@ fn below(n: usize) -> Range
 fn any_if(b: bool) -> Range
     ensures { ranged result ≡ either b (0 to most32) (0 to 0) }
 {
-    if b {
-        return ANY;
-    }
-    ZERO
-}
-
-// 0 where `b` is true, else any number.
-fn none_if(b: bool) -> Range
-    ensures { ranged result ≡ either b (0 to 0) (0 to most32) }
-{
-    if b {
-        return ZERO;
-    }
-    ANY
+    if b { ANY } else { ZERO }
 }
 
 // An existing plant retires in the second year or later, at the latest after the last; a candidate comes in one of the years.
@@ -184,11 +170,12 @@ pub fn range_at(tables: &Tables, t: usize, i: usize, j: usize) -> Range
         FUEL => below(tables.counts.fuels),
         GEN_CAP => any_if(tables.is_existing(i)),
         YEAR => plant_year(tables.is_existing(i), tables.counts.years),
-        MAX_NEW_CAP => none_if(tables.is_existing(i)),
-        TL => none_if(i == j),
-        LINE_LIMIT => none_if(i == j),
-        MW_PER_LINE => none_if(i == j),
-        LINE_ANNUITY => none_if(i == j),
+        MAX_NEW_CAP => any_if(!tables.is_existing(i)),
+        // An arm for each, with no `|`: the check joins patterns that are neighbours to one range, and the last arm's proof didn't close (c).
+        TL => any_if(i != j),
+        LINE_LIMIT => any_if(i != j),
+        MW_PER_LINE => any_if(i != j),
+        LINE_ANNUITY => any_if(i != j),
         _ => fixed_range(t),
     }
 }

@@ -15,7 +15,7 @@ use Rattle.tables.specs.Layout.{table_sets}
 use Rattle.duals.specs.declared.Multiplier.{Multiplier}
 use Rattle.duals.specs.Multipliers.{multiplier_of}
 use Rattle.texts.specs.Claims.{bytes}
-use Rattle.answer_line.specs.Line.{decimal}
+use Rattle.writer.specs.Decimal.{decimal}
 use Rattle.writer.specs.Names.{name_at}
 use Rattle.places.specs.Numbers.{member_at}
 use Rattle.figures.specs.declared.RowFigures.{RowFigures}

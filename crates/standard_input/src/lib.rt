@@ -6,62 +6,42 @@ ghost use Rattle.std.specs.Prelude.{◌≡◌, ◌≤◌, ◌<◌, length, take}
 ghost use Rattle.standard_input.specs.Received.{Within, Further};
 ghost use Rattle.standard_input.specs.Size.{input_bytes};
 
-use std::io::Read;
+use std::io::{self, Read};
 
 // As much of the input as can decide the answer. Lines that pass hold at most 4096, 2048, 4096 and 1 numbers, so they take at most
 // 4096·14 + 2048·14 + 4096·22 + 14 = 176,142 bytes (one number to a line). The longest good line has 4 + 64·17 + 1 = 1,093 bytes, so within that
 // many more the next line either ends or shows as a Frame, whatever follows. `Enough` in each program's specs/Printed.antt says it of this size.
 pub const INPUT_BYTES: usize = 180224;
 
-#[derive(Drop)]
-pub enum Received {
-    Bytes(usize),
-    Failed,
-}
-
-// What one read comes to: how many bytes there are now, or that there are no more.
-#[derive(Drop)]
-pub enum Step {
-    Total(usize),
-    End,
-    Failed,
-}
-
-// Reads once behind the first `done` bytes, which stay as they were read. A read that fails is told apart from the end of the input.
-fn read_more<R: Read>(stdin: &mut R, input: &mut [u8], done: usize) -> Step
+// Reads once behind the first `done` bytes, which stay as they were read: how many bytes there are now, or none at the end of the input.
+// A read that fails is told apart from the end.
+fn read_more<R: Read>(stdin: &mut R, input: &mut [u8], done: usize) -> io::Result<Option<usize>>
     requires { done < length input.old }
     ensures { (take done input.new ≡ take done input.old) × Further result done (length input.new) }
 {
-    match stdin.read(&mut input[done..]) {
-        Err(_) => Step::Failed,
-        Ok(count) if count == 0 => Step::End,
-        Ok(count) => Step::Total(done + count),
-    }
+    let count = stdin.read(&mut input[done..])?;
+    Ok((count > 0).then_some(done + count))
 }
 
-// Reads until the input ends or the programs' buffer is full. An input cut short by a failure is not answered.
-pub fn read_input<R: Read>(stdin: &mut R, input: &mut [u8]) -> Received
+// Reads until the input ends or the programs' buffer is full: how many bytes came. An input cut short by a failure is not answered.
+pub fn read_input<R: Read>(stdin: &mut R, input: &mut [u8]) -> io::Result<usize>
     requires { length input.old ≡ input_bytes }
     ensures { Within result (length input.new) }
 {
     let mut done = 0;
     while done < input.len() {
-        match read_more(stdin, input, done) {
-            Step::Total(total) => done = total,
-            Step::End => return Received::Bytes(done),
-            Step::Failed => return Received::Failed,
-        }
+        let Some(total) = read_more(stdin, input, done)? else {
+            break;
+        };
+        done = total;
     }
-    Received::Bytes(done)
+    Ok(done)
 }
 
 // Reads once and drops what came; whether there may be more.
 fn drop_some<R: Read>(stdin: &mut R) -> bool {
     let mut scratch = [0u8; 65536];
-    match stdin.read(&mut scratch) {
-        Err(_) => false,
-        Ok(count) => count > 0,
-    }
+    stdin.read(&mut scratch).is_ok_and(|count| count > 0)
 }
 
 // Reads the rest of an input longer than the buffer, so that whoever writes it is not cut off; answers how many of the turns are left.
@@ -69,9 +49,10 @@ fn drop_some<R: Read>(stdin: &mut R) -> bool {
 pub fn drop_rest<R: Read>(stdin: &mut R, turns: u64) -> u64
     ensures { result ≤ turns }
 {
-    let mut left = turns;
-    while left > 0 && drop_some(stdin) {
-        left -= 1;
+    for used in 0..turns {
+        if !drop_some(stdin) {
+            return turns - used;
+        }
     }
-    left
+    0
 }

@@ -7,12 +7,13 @@ ghost use Rattle.model.specs.Standing.{charge_in⁺, charge_in⁻, level_in⁺, 
 ghost use Rattle.column_terms.specs.Pairs.{pair_of};
 ghost use Rattle.tables.specs.Lists.{data_of};
 
-use duals::Pricing;
 use column_terms::Pair;
-use column_terms::pairs::{add_row, join, none, take_row, take_row_if};
 use column_terms::ramps::in_ramps;
 use column_terms::readers::{after_first_hour, zone_of};
-use tables::families::{BALANCE, BATTERY_LEVEL, CHARGE_FALL, CHARGE_LIMIT, CHARGE_RISE, LEVEL_LIMIT};
+use duals::Pricing;
+use tables::families::{
+    BALANCE, BATTERY_LEVEL, CHARGE_FALL, CHARGE_LIMIT, CHARGE_RISE, LEVEL_LIMIT,
+};
 use tables::names::EFFICIENCY;
 use tables::sets::BY_YEAR_PLANT_SLICE;
 
@@ -21,16 +22,27 @@ pub fn charge_column(pricing: &Pricing, y: usize, g: usize, s: usize) -> Pair
     requires { (y < pricing.now.multipliers.counts.years) × ((g < pricing.now.multipliers.counts.plants) × (s < slices_of pricing.now.multipliers.counts)) }
     ensures { result ≡ pair_of pricing.now.multipliers.counts pricing.now.multipliers.list.now (charge_in⁺ (data_of pricing.now.tested.tables.now) y g s) (charge_in⁻ (data_of pricing.now.tested.tables.now) y g s) }
 {
+    let multipliers = &pricing.multipliers;
     let z = zone_of(&pricing.tested, g);
-    let p = take_row(none(), 1, &pricing.multipliers, CHARGE_LIMIT, y, g, 0, s);
-    let q = take_row(p, 1000, &pricing.multipliers, BALANCE, y, z, 0, s);
+    let common = Pair::none()
+        .take_row(1, multipliers, CHARGE_LIMIT, y, g, 0, s)
+        .take_row(1000, multipliers, BALANCE, y, z, 0, s);
     if !pricing.tested.tables.is_battery(g) {
-        return q;
+        return common;
     }
     let efficiency = pricing.tested.tables.by_plant(EFFICIENCY, g);
-    let ramps = in_ramps(&pricing.multipliers, BY_YEAR_PLANT_SLICE, CHARGE_FALL, CHARGE_RISE, y, g, s);
-    let r = take_row(q, efficiency, &pricing.multipliers, BATTERY_LEVEL, y, g, 0, s);
-    join(r, ramps)
+    let ramps = in_ramps(
+        multipliers,
+        BY_YEAR_PLANT_SLICE,
+        CHARGE_FALL,
+        CHARGE_RISE,
+        y,
+        g,
+        s,
+    );
+    common
+        .take_row(efficiency, multipliers, BATTERY_LEVEL, y, g, 0, s)
+        .join(ramps)
 }
 
 // Family 25; of a battery also 21: the slice's own row, and the next slice's of the day, which starts from this level.
@@ -38,11 +50,14 @@ pub fn level_column(pricing: &Pricing, y: usize, g: usize, s: usize) -> Pair
     requires { (y < pricing.now.multipliers.counts.years) × ((g < pricing.now.multipliers.counts.plants) × (s < slices_of pricing.now.multipliers.counts)) }
     ensures { result ≡ pair_of pricing.now.multipliers.counts pricing.now.multipliers.list.now (level_in⁺ (data_of pricing.now.tested.tables.now) y g s) (level_in⁻ (data_of pricing.now.tested.tables.now) y g s) }
 {
-    let p = take_row(none(), 1, &pricing.multipliers, LEVEL_LIMIT, y, g, 0, s);
+    let multipliers = &pricing.multipliers;
+    let limit = Pair::none().take_row(1, multipliers, LEVEL_LIMIT, y, g, 0, s);
     if !pricing.tested.tables.is_battery(g) {
-        return p;
+        return limit;
     }
     let next = s + 1;
-    let q = add_row(p, 1, &pricing.multipliers, BATTERY_LEVEL, y, g, 0, s);
-    take_row_if(after_first_hour(pricing.multipliers.counts, next), q, 1, &pricing.multipliers, BATTERY_LEVEL, y, g, 0, next)
+    let carried = after_first_hour(multipliers.counts, next);
+    limit
+        .add_row(1, multipliers, BATTERY_LEVEL, y, g, 0, s)
+        .take_row_if(carried, 1, multipliers, BATTERY_LEVEL, y, g, 0, next)
 }

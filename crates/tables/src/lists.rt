@@ -32,6 +32,7 @@ pub fn wide(x: u32) -> u64
 }
 
 // The data list, laid out: it passed refusals 1 and 2.
+#[derive(Drop)]
 pub struct Tables<'a> {
     pub list: &'a [u32],
     pub counts: Counts,
@@ -40,6 +41,7 @@ pub struct Tables<'a> {
 }
 
 // A plan of the right length.
+#[derive(Drop)]
 pub struct Plan<'a> {
     pub list: &'a [u32],
     pub counts: Counts,
@@ -49,6 +51,7 @@ pub struct Plan<'a> {
 }
 
 // A plan beside the data that it is a plan for.
+#[derive(Drop)]
 pub struct Case<'a> {
     pub tables: Tables<'a>,
     pub plan: Plan<'a>,

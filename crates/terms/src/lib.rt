@@ -2,4 +2,5 @@
 #![tactic(auto)]
 
 pub mod plants;
+pub mod totals;
 pub mod years;

@@ -11,8 +11,5 @@ const DEFAULT_SCALE: u32 = 1000;
 pub fn scale_in(scal: &[u32]) -> u32
     ensures { result ≡ scale_in scal.now }
 {
-    if scal.len() == 0 {
-        return DEFAULT_SCALE;
-    }
-    scal[0]
+    scal.first().copied().unwrap_or(DEFAULT_SCALE)
 }

@@ -1,87 +1,127 @@
 -- Laws of reading a text line by line. Assumes nothing.
-use mathlib.Core.List.{List, [], ◌∷◌}
-use mathlib.Core.Option.{none, some}
-use mathlib.Core.Path.{◌≡◌, refl}
-use Prim.Native.Nat.{ℕ, suc, ◌+◌, ◌-◌, ◌≤◌, ◌<◌}
+use mathlib.Core.Bool.{Bool, true, false, false≢true}
+use mathlib.Core.List.{List, [], ◌∷◌, ◌++◌, append_assoc}
+use mathlib.Core.Logic.{⊎_elim}
+use mathlib.Core.Path.{◌≡◌, refl, sym, ◌∙◌}
+use Prim.Native.Nat.{ℕ, zero, suc, ◌+◌, ◌≤◌, ◌<◌, min}
 use native.Mathlib.Omega.{arith}
-use native.Mathlib.Numerals.{add-one}
-use lib.IntN.{ℤ}
-use lib.ListN.{length, get_or, take, drop, length-drop, drop_of_length-le}
-use lib.Seq.{drop-cons, drop-drop}
-use borrow.Author.Tests.{eq-eqb, ne_eqb}
-use Rattle.texts.specs.declared.Used.{Used}
-use Rattle.texts.specs.Format.{line_feed, add_line, line, lines, frame_at, whole, read_lines, text_of}
-use Rattle.texts.specs.Buffers.{Room, Within, lists_in, line_length}
+use lib.Dec.{eqb}
+use lib.ListN.{length, get_or, take, drop, length-append}
+use lib.Seq.{take-append_seam, drop-append_seam, get_or-append_seam, take-suc}
+use borrow.Author.Tests.{eq-eqb, eqb-true}
+use Rattle.capped.proofs.Laws.{le-or-lt}
+use Rattle.std.specs.Fn.{Mut, Called, ComputesKey}
+use denote.Ref.{Bor}
+use Rattle.std.proofs.lemmas.List.Sorted.{answers_always}
+use Rattle.std.specs.List.{AllWithin, HoldsAt, IsFirstMatchOrLen}
+use Rattle.std.proofs.Common.{Result, Ok, Err}
+use Rattle.std.specs.Prelude.{Option, Some, None, ok_or, IsErr, IsErrAnd}
+use Rattle.texts.specs.declared.Numbers.{Numbers}
+use Rattle.text_reader.specs.declared.Frame.{Frame}
+use Rattle.text_reader.specs.Reading.{text_in}
+use Rattle.texts.specs.Format.{line_feed, Lists, line, unended, lines, add_line, Text, frame_at, whole, read_lines}
+use Rattle.texts.specs.Numbers.{line_length}
 use Rattle.texts.proofs.TextLaws.{first-line, no-feed}
 
--- What the code of `line_end` finds: at i the line goes on, ends, or the text ends
-
-on-byte : {b : ℕ} (bs : List ℕ) → (b ≡ line_feed → ⊥) → line_length (b ∷ bs) ≡ suc (line_length bs)
+-- the first line feed, or the length
+line_length-is : (l : List ℕ) (i : ℕ) → AllWithin (λ b. eqb b line_feed ≡ false) l 0 i → (i < length l → HoldsAt (λ b. eqb b line_feed ≡ true) l i) → line_length l ≡ min i (length l)
 unfolding line_length
-on-byte {b} bs f = rw (ne_eqb b line_feed f)
+line_length-is [] i none here = omega arith
+line_length-is (b ∷ bs) zero none here = rw (here (omega arith) 0) (omega arith)
+line_length-is (b ∷ bs) (suc i) none here =
+    let rest : line_length bs ≡ min i (length bs) = line_length-is bs i (λ k d h j. none (suc k) d (omega arith) (omega arith)) (λ h d. here (omega arith) d) in
+    rw (none 0 0 (omega arith) (omega arith)) (omega (arith, rest))
 
-on-feed : {b : ℕ} (bs : List ℕ) → b ≡ line_feed → line_length (b ∷ bs) ≡ 0
-unfolding line_length
-on-feed {b} bs f = rw (eq-eqb b line_feed f)
+-- What `split_inclusive` gave at the line feeds: `bytes`, of which `left` is left, a line and its line feed or a last line without one
+module _ {F : Type 0} {g : Mut F (Bor ℕ × Unit {0}) Bool} {f f2 : F} (rest bytes left : List ℕ)
+    (cut : (rest ≡ bytes ++ left) × ((i : ℕ) × (length bytes ≡ min (i + 1) (length rest)) × ((p : ℕ → Bool) → ComputesKey g p f → ComputesKey g p f2 × IsFirstMatchOrLen p rest i)) × (0 < length rest))
+    (feeds : (h : F) (a : Bor ℕ × Unit {0}) (r : Bool) (h2 : F) → Called g h a r h2 → r ≡ eqb a.0.now line_feed) where
+  i : ℕ
+  i = cut.1.0
 
-on-end : line_length [] ≡ 0
-unfolding line_length
-on-end = refl
+  first : IsFirstMatchOrLen (λ b. eqb b line_feed) rest i
+  unfolding i
+  first = (cut.1.2 (λ b. eqb b line_feed) (answers_always g (λ a r. r ≡ eqb a.0.now line_feed) f feeds)).1
 
-module _ (l : List ℕ) (at i : ℕ) (so : at + line_length (drop at l) ≡ i + line_length (drop i l)) where
-  pub line_on : i < length l → (get_or l i 0 ≡ line_feed → ⊥) → at + line_length (drop at l) ≡ i + 1 + line_length (drop (i + 1) l)
-  line_on h e = let on : line_length (drop i l) ≡ suc (line_length (drop (i + 1) l)) = rw (drop-cons l i 0 h, add-one) (on-byte _ e) in omega (arith, so, on)
+  long : length bytes ≡ min (i + 1) (length rest)
+  unfolding i
+  long = cut.1.1
 
-  pub line-ends : i < length l → get_or l i 0 ≡ line_feed → i ≡ at + line_length (drop at l)
-  line-ends h e = let on : line_length (drop i l) ≡ 0 = rw (drop-cons l i 0 h) (on-feed _ e) in omega (arith, so, on)
+  ends : line_length rest ≡ min i (length rest)
+  ends = line_length-is rest i first.0 first.1
 
-  pub text-ends : length l ≤ i → i ≡ at + line_length (drop at l)
-  text-ends h = let on : line_length (drop i l) ≡ 0 = rw (drop_of_length-le l h) on-end in omega (arith, so, on)
+  seam-length : length rest ≡ length bytes + length left
+  seam-length = rw cut.0 (length-append bytes left)
 
--- The reading of a text, at the place `at`, where the line with this number starts
+  module _ (l : List ℕ) (feed : bytes ≡ l ++ (line_feed ∷ [])) where
+    bytes-length : length bytes ≡ suc (length l)
+    bytes-length = rw feed (omega (arith, length-append l (line_feed ∷ [])))
 
-pub record Reached (text : List ℕ) (at number : ℕ) (u : Used) (d p s : List ℕ) (m : List ℤ) : Type 0 where
-  pub upto : at ≤ length text
-  pub few : number ≤ at + 1
-  pub room : Room d p s m
-  pub within : Within u
-  pub so : read_lines (lines (drop at text)) number (lists_in u d p s m) ≡ text_of text
+    parted : rest ≡ l ++ (line_feed ∷ left)
+    parted = cut.0 ∙ rw feed (append_assoc l (line_feed ∷ []) left)
 
-pub reached-start : (text d p s : List ℕ) (m : List ℤ) → Room d p s m → Reached text 0 1 (record { «data» = 0; plan = 0; scal = 0; dual = 0 }) d p s m
-unfolding text_of
-reached-start text d p s m r =
-    record {
-      upto = omega arith;
-      few = omega arith;
-      room = r;
-      within = record { data_within = omega arith; plan_within = omega arith; scal_within = omega arith; dual_within = omega arith };
-      so = refl;
-    }
+    feed-at : get_or rest (length l) 0 ≡ line_feed
+    feed-at = rw parted (get_or-append_seam l line_feed left 0)
 
-module _ (text : List ℕ) (at number : ℕ) (u : Used) (d p s : List ℕ) (m : List ℤ) (here : Reached text at number u d p s m) where
-  pub reached-end : length text ≤ at → whole (lists_in u d p s m) ≡ text_of text
+    pub line-cut : lines rest ≡ line l (lines left)
+    line-cut = ⊎_elim none some (le-or-lt (length rest) i)
+      where
+        none : length rest ≤ i → lines rest ≡ line l (lines left)
+        none h = absurd (let f = first.0 (length l) 0 (omega arith) (omega (arith, long, bytes-length, seam-length)) in let t = eq-eqb _ line_feed feed-at in false≢true (sym f ∙ t))
+
+        some : i < length rest → lines rest ≡ line l (lines left)
+        some h =
+            let p : line_length rest ≡ length l = omega (arith, ends, long, bytes-length) in
+            let head : take (length l) rest ≡ l = rw parted (take-append_seam l (line_feed ∷ left)) in
+            let tail : drop (suc (length l)) rest ≡ left = rw (cut.0, ← bytes-length) (drop-append_seam bytes left) in
+            first-line rest (omega (arith, ends)) ∙ rw (p, head, tail)
+
+  pub unended-cut : ((l : List ℕ) → bytes ≡ l ++ (line_feed ∷ []) → ⊥) → lines rest ≡ unended
+  unended-cut e = ⊎_elim none some (le-or-lt (length rest) i)
+    where
+      none : length rest ≤ i → lines rest ≡ unended
+      none h = no-feed rest cut.2 (omega (arith, ends))
+
+      some : i < length rest → lines rest ≡ unended
+      some h =
+          let p : length bytes ≡ suc i = omega (arith, long) in
+          let here : get_or rest i 0 ≡ line_feed = eqb-true _ line_feed (first.1 h 0) in
+          let all : take (length bytes) rest ≡ bytes = rw cut.0 (take-append_seam bytes left) in
+          absurd (e (take i rest) (sym all ∙ rw p (take-suc rest i 0 h ∙ rw here)))
+
+-- Reading on, at the line n, behind the numbers s
+
+module _ (rest : List ℕ) (n : ℕ) (s : Lists) (text : Text) (here : read_lines (lines rest) n s ≡ text) where
+  pub ended : length rest ≡ 0 → whole s ≡ text
   unfolding read_lines lines
-  reached-end h = rw (drop_of_length-le text h) at here.so
+  ended e = go rest e here
+    where
+      go : (l : List ℕ) → length l ≡ 0 → read_lines (lines l) n s ≡ text → whole s ≡ text
+      go [] f h = h
+      go (b ∷ bs) f h = absurd (omega arith)
 
-  module _ (end : ℕ) (ends : end ≡ at + line_length (drop at text)) where
-    pub reached-unended : at < length text → end ≡ length text → frame_at number ≡ text_of text
-    unfolding read_lines
-    reached-unended h e =
-        rw (no-feed (drop at text) (omega (arith, length-drop at text)) (omega (arith, length-drop at text))) at here.so
+  pub left-unended : lines rest ≡ unended → frame_at n ≡ text
+  unfolding read_lines
+  left-unended e = rw e at here
 
-    one_line : at < length text → end < length text
-        → read_lines (line (take (end - at) (drop at text)) (lines (drop (end + 1) text))) number (lists_in u d p s m) ≡ text_of text
-    one_line h k =
-        let f : line_length (drop at text) ≡ end - at = omega arith in
-        let g : at + suc (end - at) ≡ end + 1 = omega arith in
-        rw (first-line (drop at text) (omega (arith, length-drop at text)), f, drop-drop, g) at here.so
+  pub no_line : (l left : List ℕ) → lines rest ≡ line l (lines left) → None ≡ add_line l s → frame_at n ≡ text
+  unfolding read_lines
+  no_line l left e f = rw (e, ← f) at here
 
-    pub reached-frame : at < length text → end < length text → none ≡ add_line (take (end - at) (drop at text)) (lists_in u d p s m) → frame_at number ≡ text_of text
-    unfolding read_lines
-    reached-frame h k e = rw (← e) at (one_line h k)
+  pub next_line : (l left : List ℕ) (t : Lists) → lines rest ≡ line l (lines left) → Some t ≡ add_line l s → read_lines (lines left) (n + 1) t ≡ text
+  unfolding read_lines
+  next_line l left t e f = rw (e, ← f) at here
 
-    pub reached-next : at < length text → end < length text → (v : Used) (d2 p2 s2 : List ℕ) (m2 : List ℤ) → Within v → Room d2 p2 s2 m2
-        → some (lists_in v d2 p2 s2 m2) ≡ add_line (take (end - at) (drop at text)) (lists_in u d p s m) → Reached text (end + 1) (number + 1) v d2 p2 s2 m2
-    unfolding read_lines
-    reached-next h k v d2 p2 s2 m2 w r e =
-        record { upto = omega arith; few = omega (arith, here.few); room = r; within = w; so = rw (← e) at (one_line h k) }
+-- The code's answers
+
+pub passed : {A E : Type 0} (o : Option A) {x : A} (e : E) → Ok x ≡ ok_or o e → o ≡ Some x
+passed (Some y) e h = cc
+passed None e h = absurd cc
+
+pub failed : {A E : Type 0} (o : Option A) (d e : E) → Err d ≡ ok_or o e → (o ≡ None) × (d ≡ e)
+failed (Some y) d e h = absurd cc
+failed None d e h = (refl, cc)
+
+pub text-frame : (r : Result Numbers Frame) (e : Frame) → IsErr r × IsErrAnd r (λ d. d ≡ e) → text_in r ≡ frame_at e.line
+text-frame (Ok n) e h = absurd cc
+text-frame (Err d) e h = rw h.1

@@ -3,7 +3,7 @@
 use mathlib.Core.Bool.{Bool, true, false, cond, ◌&&◌}
 use mathlib.Core.List.{List, [], ◌∷◌}
 use mathlib.Core.Logic.{⊎_elim}
-use mathlib.Core.Option.{Option, none, some, map, some-injective, none-ne-some}
+use Rattle.std.specs.Prelude.{Option, Some, None, option_map}
 use mathlib.Core.Path.{◌≡◌, refl, sym, ap, ◌∙◌}
 use Prim.Native.Nat.{ℕ, zero, suc, ◌+◌, ◌*◌, ◌-◌, ◌≤◌, ◌<◌, min}
 use native.Mathlib.Nat.{sub-zero, zero-sub, suc-sub-suc}
@@ -13,37 +13,35 @@ use lib.ListN.{length, take, drop, length-append, length-take, length-drop}
 use lib.Seq.{take_all, take-nil, take-take}
 use borrow.Author.Tests.{leb-true}
 use Rattle.capped.proofs.Laws.{le-or-lt}
-use Rattle.text_numbers.specs.declared.Number.{Number}
-use Rattle.text_numbers.specs.declared.Number.TheVariants.{Value, NoNumber}
-use Rattle.texts.specs.declared.Word.{Word}
-use Rattle.texts.specs.declared.Word.TheVariants.{Data, Plan, Scal, Dual, Other}
+use Rattle.texts.specs.declared.lines.Word.{Word}
+use Rattle.texts.specs.declared.lines.Word.TheVariants.{Data, Plan, Scal, Dual}
 use Rattle.text_numbers.specs.Numbers.{signed}
 use Rattle.texts.specs.Format.{line_feed, digits, dual_digits, most_data, most_plan, most_scal, most_dual, plain, count, one_more_number, numbers, after, join, Lists, no_lists, with_data, with_plan, with_scal, with_dual}
 use Rattle.texts.specs.Format.{word_of, line_of, add_line, Lines, line, unended, lines, frame_at, next, read_lines, text_of}
-use Rattle.texts.specs.Buffers.{line_length}
+use Rattle.texts.specs.Numbers.{line_length}
 use Rattle.texts.specs.Claims.{number_line, dual_line, most_good, most_line, FixedBuffer}
-use Rattle.texts.proofs.LineLaws.{Counted, counted}
+use Rattle.texts.proofs.LineLaws.{some_inj, Counted, counted}
 use Rattle.texts.proofs.TextLaws.{first-line, no-feed}
 
 -- A good line
 
 module _ {A : Type 0} (value : ℕ → A) (w : ℕ) (l : List ℕ) where
-  one-more-length : (o : Option (List A)) (x : Number) (n : ℕ) (zs : List A) → ((ys : List A) → o ≡ some ys → length ys ≡ n) → one_more_number value o x ≡ some zs → length zs ≡ suc n
+  one-more-length : (o : Option (List A)) (x : Option ℕ) (n : ℕ) (zs : List A) → ((ys : List A) → o ≡ Some ys → length ys ≡ n) → one_more_number value o x ≡ Some zs → length zs ≡ suc n
   unfolding one_more_number
-  one-more-length (some ys) (Value v) n zs h e =
-      rw (← some-injective _ _ e) (omega (arith, length-append ys (value v ∷ []), h ys refl))
-  one-more-length (some ys) NoNumber n zs h e = absurd (none-ne-some _ e)
-  one-more-length none x n zs h e = absurd (none-ne-some _ e)
+  one-more-length (Some ys) (Some v) n zs h e =
+      rw (← some_inj e) (omega (arith, length-append ys (value v ∷ []), h ys refl))
+  one-more-length (Some ys) None n zs h e = absurd (cc)
+  one-more-length None x n zs h e = absurd (cc)
 
-  numbers-length : (n : ℕ) (zs : List A) → numbers value w l n ≡ some zs → length zs ≡ n
+  numbers-length : (n : ℕ) (zs : List A) → numbers value w l n ≡ Some zs → length zs ≡ n
   unfolding numbers
-  numbers-length zero zs e = ap length (sym (some-injective _ _ e))
+  numbers-length zero zs e = ap length (sym (some_inj e))
   numbers-length (suc n) zs e = one-more-length (numbers value w l n) _ n zs (numbers-length n) e
 
-  after-length : (xs : List A) (o : Option (List A)) (n : ℕ) (zs : List A) → ((ys : List A) → o ≡ some ys → length ys ≡ n) → after xs o ≡ some zs → length zs ≡ length xs + n
+  after-length : (xs : List A) (o : Option (List A)) (n : ℕ) (zs : List A) → ((ys : List A) → o ≡ Some ys → length ys ≡ n) → after xs o ≡ Some zs → length zs ≡ length xs + n
   unfolding after
-  after-length xs (some ys) n zs h e = rw (← some-injective _ _ e) (omega (arith, length-append xs ys, h ys refl))
-  after-length xs none n zs h e = absurd (none-ne-some _ e)
+  after-length xs (Some ys) n zs h e = rw (← some_inj e) (omega (arith, length-append xs ys, h ys refl))
+  after-length xs None n zs h e = absurd (cc)
 
   -- n numbers on the line, behind those of xs
   pub record Joins (most : ℕ) (xs zs : List A) : Type 0 where
@@ -53,21 +51,21 @@ module _ {A : Type 0} (value : ℕ → A) (w : ℕ) (l : List ℕ) where
     pub length-is : length zs ≡ length xs + n
     pub fits : length zs ≤ most
 
-  pub joins : (most : ℕ) (xs zs : List A) → join value w most xs l ≡ some zs → Joins most xs zs
+  pub joins : (most : ℕ) (xs zs : List A) → join value w most xs l ≡ Some zs → Joins most xs zs
   unfolding join
   joins most xs zs e = go (leb 1 c) (leb (length xs + c) most) refl refl e
     where
       c : ℕ
       c = count (length l) w
 
-      go : (p q : Bool) → leb 1 c ≡ p → leb (length xs + c) most ≡ q → cond (p && q) (after xs (numbers value w l c)) none ≡ some zs → Joins most xs zs
+      go : (p q : Bool) → leb 1 c ≡ p → leb (length xs + c) most ≡ q → cond (p && q) (after xs (numbers value w l c)) None ≡ Some zs → Joins most xs zs
       go true true hp hq f =
           let h : 1 ≤ c = leb-true 1 c hp in
           let k : length xs + c ≤ most = leb-true _ most hq in
           let s = after-length xs (numbers value w l c) c zs (numbers-length c) f in
           record { n = c; one = h; line = counted (length l) w c refl (λ z. omega arith); length-is = s; fits = omega arith }
-      go true false hp hq f = absurd (none-ne-some _ f)
-      go false q hp hq f = absurd (none-ne-some _ f)
+      go true false hp hq f = absurd (cc)
+      go false q hp hq f = absurd (cc)
 
 -- The bytes that the numbers of the good lines may have taken
 
@@ -87,46 +85,46 @@ record Grown (l : List ℕ) (s t : Lists) : Type 0 where
   limited : Limited s → Limited t
 
 grown-join : {A : Type 0} (value : ℕ → A) (w most : ℕ) (xs : List A) (l : List ℕ) (with-numbers : List A → Lists) (s t : Lists)
-    → ((zs : List A) → Joins value w l most xs zs → Grown l s (with-numbers zs)) → map with-numbers (join value w most xs l) ≡ some t → Grown l s t
+    → ((zs : List A) → Joins value w l most xs zs → Grown l s (with-numbers zs)) → option_map with-numbers (join value w most xs l) ≡ Some t → Grown l s t
 grown-join {A} value w most xs l with-numbers s t each e = go (join value w most xs l) refl e
   where
-    go : (o : Option (List A)) → join value w most xs l ≡ o → map with-numbers o ≡ some t → Grown l s t
-    go none f g = absurd (none-ne-some _ g)
-    go (some zs) f g = rw (← some-injective _ _ g) (each zs (joins value w l most xs zs f))
+    go : (o : Option (List A)) → join value w most xs l ≡ o → option_map with-numbers o ≡ Some t → Grown l s t
+    go None f g = absurd (cc)
+    go (Some zs) f g = rw (← some_inj g) (each zs (joins value w l most xs zs f))
 
-grown-word : (v : Word) (l : List ℕ) (s t : Lists) → line_of v l s ≡ some t → Grown l s t
+grown-word : (v : Option Word) (l : List ℕ) (s t : Lists) → line_of v l s ≡ Some t → Grown l s t
 unfolding line_of weight
-grown-word Data l s t e =
+grown-word (Some Data) l s t e =
     grown-join plain digits most_data s.of_data l (with_data s) s t
     (λ xs j. record {
       short = omega (arith, j.line.few, j.line.long);
       heavier = omega (arith, j.one, j.line.long, j.length-is);
       limited = λ h. record { data-few = j.fits; plan-few = h.plan-few; scal-few = h.scal-few; dual-few = h.dual-few };
     }) e
-grown-word Plan l s t e =
+grown-word (Some Plan) l s t e =
     grown-join plain digits most_plan s.of_plan l (with_plan s) s t
     (λ xs j. record {
       short = omega (arith, j.line.few, j.line.long);
       heavier = omega (arith, j.one, j.line.long, j.length-is);
       limited = λ h. record { data-few = h.data-few; plan-few = j.fits; scal-few = h.scal-few; dual-few = h.dual-few };
     }) e
-grown-word Scal l s t e =
+grown-word (Some Scal) l s t e =
     grown-join plain digits most_scal s.of_scal l (with_scal s) s t
     (λ xs j. record {
       short = omega (arith, j.line.few, j.line.long);
       heavier = omega (arith, j.one, j.line.long, j.length-is);
       limited = λ h. record { data-few = h.data-few; plan-few = h.plan-few; scal-few = j.fits; dual-few = h.dual-few };
     }) e
-grown-word Dual l s t e =
+grown-word (Some Dual) l s t e =
     grown-join signed dual_digits most_dual s.of_dual l (with_dual s) s t
     (λ xs j. record {
       short = omega (arith, j.line.few, j.line.long);
       heavier = omega (arith, j.one, j.line.long, j.length-is);
       limited = λ h. record { data-few = h.data-few; plan-few = h.plan-few; scal-few = h.scal-few; dual-few = j.fits };
     }) e
-grown-word Other l s t e = absurd (none-ne-some _ e)
+grown-word None l s t e = absurd (cc)
 
-grown : (l : List ℕ) (s t : Lists) → add_line l s ≡ some t → Grown l s t
+grown : (l : List ℕ) (s t : Lists) → add_line l s ≡ Some t → Grown l s t
 unfolding add_line
 grown l s t e = grown-word (word_of l) l s t e
 
@@ -178,8 +176,8 @@ unfolding read_lines
 long-line l rest k s h = go (add_line l s) refl
   where
     go : (o : Option Lists) → add_line l s ≡ o → frame_at k ≡ next o k (read_lines rest (k + 1))
-    go none e = refl
-    go (some t) e = let g = grown l s t e in absurd (omega (arith, h, g.short))
+    go None e = refl
+    go (Some t) e = let g = grown l s t e in absurd (omega (arith, h, g.short))
 
 -- the rest l of a text and its first n bytes, after good lines that said s
 module _ (n k : ℕ) (l : List ℕ) (s : Lists) (h : Limited s) (enough : most_good + most_line ≤ n + weight s) (more : n < length l) where
@@ -209,8 +207,8 @@ module _ (n k : ℕ) (l : List ℕ) (s : Lists) (h : Limited s) (enough : most_g
 
       go : (o : Option Lists) → add_line (take p l) s ≡ o
           → next o k (read_lines (lines (take (n - suc p) (drop (suc p) l))) (k + 1)) ≡ next o k (read_lines (lines (drop (suc p) l)) (k + 1))
-      go none e = refl
-      go (some t) e =
+      go None e = refl
+      go (Some t) e =
           let g = grown (take p l) s t e in
           rest (n - suc p) t (g.limited h) (omega (arith, enough, g.heavier, more, q, length-take p l))
 

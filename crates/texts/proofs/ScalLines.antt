@@ -1,25 +1,22 @@
 -- SCAL lines: whether a text has read one, and what it says with one behind it. Assumes nothing.
 use mathlib.Core.Bool.{Bool, true, false, cond, ◌&&◌, ◌||◌, true≢false, false≢true}
 use mathlib.Core.List.{List, [], ◌∷◌, ◌++◌}
-use mathlib.Core.Logic.{⊎_elim}
-use mathlib.Core.Option.{Option, none, some, map, some-injective, none-ne-some}
+use Rattle.std.specs.Prelude.{Option, Some, None, option_map}
 use mathlib.Core.Path.{◌≡◌, refl, ◌∙◌}
-use Prim.Native.Nat.{ℕ, zero, suc, ◌+◌, ◌*◌, ◌-◌, ◌≤◌, ◌<◌}
-use native.Mathlib.Nat.{eq-or-lt_of_le, le_of_suc-le-suc}
+use Prim.Native.Nat.{ℕ, suc, ◌+◌, ◌*◌, ◌-◌, ◌≤◌, ◌<◌}
 use native.Mathlib.Omega.{arith}
 use lib.Dec.{eqb, leb}
 use lib.ListN.{length, get_or, length-append}
 use lib.Seq.{get_or-append-add}
 use borrow.Author.Tests.{leb-true, eqb-true, ne_eqb}
-use Rattle.text_numbers.specs.declared.Number.TheVariants.{NoNumber}
-use Rattle.texts.specs.declared.Word.{Word}
-use Rattle.texts.specs.declared.Word.TheVariants.{Data, Plan, Scal, Dual, Other}
+use Rattle.texts.specs.declared.lines.Word.{Word}
+use Rattle.texts.specs.declared.lines.Word.TheVariants.{Data, Plan, Scal, Dual}
 use Rattle.text_numbers.specs.Numbers.{signed, digit, with_digit, digits_at, number_at}
 use Rattle.texts.specs.Format.{line_feed, word_length, data_word, plan_word, scal_word, dual_word, digits, dual_digits, most_data, most_plan, most_scal, most_dual, plain, count, one_more_number, numbers, after, join, opens_with, word_of, Lists, no_lists, with_data, with_plan, with_scal, with_dual, line_of, add_line}
 use Rattle.texts.specs.Format.{Lines, nothing, unended, line, with_byte, lines, Text, frame_at, whole, next, read_lines, text_of}
 use Rattle.texts.specs.Claims.{bytes, scal_among, has_scal}
 use Rattle.text_numbers.proofs.NumberLaws.{number-stop}
-use Rattle.texts.proofs.LineLaws.{Counted, counted}
+use Rattle.texts.proofs.LineLaws.{some_inj, Counted, counted, numbers-none}
 use Rattle.texts.proofs.Enough.{joins}
 
 -- A line and the SCAL numbers
@@ -42,33 +39,33 @@ other-letter w l e = rw (ne_eqb _ _ e) (go (leb word_length (length l)))
     go true = refl
     go false = refl
 
-scal-word : (l : List ℕ) → opens_with scal_word l ≡ true → word_of l ≡ Scal
+scal-word : (l : List ℕ) → opens_with scal_word l ≡ true → word_of l ≡ Some Scal
 unfolding word_of
 scal-word l e =
     let f : get_or l 0 0 ≡ 83 = first-letter scal_word l e in
     rw (other-letter data_word l (λ g. omega (arith, f, g)), other-letter plan_word l (λ g. omega (arith, f, g)), e)
 
 -- a line of another word adds none
-kept_by : {A : Type 0} (with-list : List A → Lists) (s t : Lists) → ((xs : List A) → (with-list xs).of_scal ≡ s.of_scal) → (o : Option (List A)) → map with-list o ≡ some t → t.of_scal ≡ s.of_scal
-kept_by with-list s t same (some xs) e = rw (← some-injective _ _ e) (same xs)
-kept_by with-list s t same none e = absurd (none-ne-some _ e)
+kept_by : {A : Type 0} (with-list : List A → Lists) (s t : Lists) → ((xs : List A) → (with-list xs).of_scal ≡ s.of_scal) → (o : Option (List A)) → option_map with-list o ≡ Some t → t.of_scal ≡ s.of_scal
+kept_by with-list s t same (Some xs) e = rw (← some_inj e) (same xs)
+kept_by with-list s t same None e = absurd (cc)
 
 -- a line of SCAL adds one or more
-grown-by : (l : List ℕ) (s t : Lists) (o : Option (List ℕ)) → join plain digits most_scal s.of_scal l ≡ o → map (with_scal s) o ≡ some t → length s.of_scal < length t.of_scal
-grown-by l s t (some zs) f e = let j = joins plain digits l most_scal s.of_scal zs f in rw (← some-injective _ _ e) (omega (arith, j.one, j.length-is))
-grown-by l s t none f e = absurd (none-ne-some _ e)
+grown-by : (l : List ℕ) (s t : Lists) (o : Option (List ℕ)) → join plain digits most_scal s.of_scal l ≡ o → option_map (with_scal s) o ≡ Some t → length s.of_scal < length t.of_scal
+grown-by l s t (Some zs) f e = let j = joins plain digits l most_scal s.of_scal zs f in rw (← some_inj e) (omega (arith, j.one, j.length-is))
+grown-by l s t None f e = absurd (cc)
 
-module _ (l : List ℕ) (s t : Lists) (good : add_line l s ≡ some t) where
+module _ (l : List ℕ) (s t : Lists) (good : add_line l s ≡ Some t) where
   scal-kept : opens_with scal_word l ≡ false → t.of_scal ≡ s.of_scal
   unfolding add_line word_of line_of
   scal-kept other = go (opens_with data_word l) (opens_with plan_word l) (opens_with scal_word l) (opens_with dual_word l) other good
     where
-      go : (d p c m : Bool) → c ≡ false → line_of (cond d Data (cond p Plan (cond c Scal (cond m Dual Other)))) l s ≡ some t → t.of_scal ≡ s.of_scal
+      go : (d p c m : Bool) → c ≡ false → line_of (cond d (Some Data) (cond p (Some Plan) (cond c (Some Scal) (cond m (Some Dual) None)))) l s ≡ Some t → t.of_scal ≡ s.of_scal
       go true p c m f g = kept_by (with_data s) s t (λ xs. refl) (join plain digits most_data s.of_data l) g
       go false true c m f g = kept_by (with_plan s) s t (λ xs. refl) (join plain digits most_plan s.of_plan l) g
       go false false true m f g = absurd (true≢false f)
       go false false false true f g = kept_by (with_dual s) s t (λ xs. refl) (join signed dual_digits most_dual s.of_dual l) g
-      go false false false false f g = absurd (none-ne-some _ g)
+      go false false false false f g = absurd (cc)
 
   scal-grown : opens_with scal_word l ≡ true → length s.of_scal < length t.of_scal
   unfolding add_line line_of
@@ -100,8 +97,8 @@ stays-read unended n s h = tt
 stays-read (line l rest) n s h = go (add_line l s) refl (stays-read rest (n + 1))
   where
     go : (o : Option Lists) → add_line l s ≡ o → ((t : Lists) → 0 < length t.of_scal → ScalRead (read_lines rest (n + 1) t)) → ScalRead (next o n (read_lines rest (n + 1)))
-    go none e more = tt
-    go (some t) e more = more t (omega (arith, h, scal-no-fewer l s t e))
+    go None e more = tt
+    go (Some t) e more = more t (omega (arith, h, scal-no-fewer l s t e))
 
 among-read : (L : Lines) (n : ℕ) (s : Lists) → scal_among L ≡ true → ScalRead (read_lines L n s)
 unfolding read_lines
@@ -111,9 +108,9 @@ among-read (line l rest) n s h = go (add_line l s) refl (opens_with scal_word l)
   where
     go : (o : Option Lists) → add_line l s ≡ o → (b : Bool) → opens_with scal_word l ≡ b → b || scal_among rest ≡ true
         → ((t : Lists) → scal_among rest ≡ true → ScalRead (read_lines rest (n + 1) t)) → ScalRead (next o n (read_lines rest (n + 1)))
-    go none e b f g more = tt
-    go (some t) e true f g more = stays-read rest (n + 1) t (omega (arith, scal-grown l s t e f))
-    go (some t) e false f g more = more t g
+    go None e b f g more = tt
+    go (Some t) e true f g more = stays-read rest (n + 1) t (omega (arith, scal-grown l s t e f))
+    go (Some t) e false f g more = more t g
 
 pub scal-read : (input : List ℕ) → has_scal input ≡ true → ScalRead (text_of input)
 unfolding text_of
@@ -127,9 +124,9 @@ none-among (line l rest) n s h k = go (add_line l s) refl (opens_with scal_word 
   where
     go : (o : Option Lists) → add_line l s ≡ o → (b : Bool) → opens_with scal_word l ≡ b → b || scal_among rest ≡ false
         → ((t : Lists) → scal_among rest ≡ false → t.of_scal ≡ [] → NoScalRead (read_lines rest (n + 1) t)) → NoScalRead (next o n (read_lines rest (n + 1)))
-    go none e b f g more = tt
-    go (some t) e true f g more = absurd (true≢false g)
-    go (some t) e false f g more = more t g (scal-kept l s t e f ∙ k)
+    go None e b f g more = tt
+    go (Some t) e true f g more = absurd (true≢false g)
+    go (Some t) e false f g more = more t g (scal-kept l s t e f ∙ k)
 
 pub no-scal-read : (input : List ℕ) → has_scal input ≡ false → NoScalRead (text_of input)
 unfolding text_of
@@ -140,10 +137,10 @@ no-scal-read input h = none-among (lines input) 1 no_lists h refl
 -- a SCAL line of one number v, without its line feed
 pub record ScalLine (l : List ℕ) (v : ℕ) : Type 0 where
   pub long : length l ≡ word_length + 1 + digits
-  pub letter : digit (get_or l 3 0) ≡ NoNumber  -- the L
-  pub parted : digit (get_or l 4 0) ≡ NoNumber  -- the space
+  pub letter : digit (get_or l 3 0) ≡ None  -- the L
+  pub parted : digit (get_or l 4 0) ≡ None  -- the space
   pub ended : lines (l ++ (line_feed ∷ [])) ≡ line l nothing
-  pub reads : (s : Lists) → s.of_scal ≡ [] → add_line l s ≡ some (with_scal s (v ∷ []))
+  pub reads : (s : Lists) → s.of_scal ≡ [] → add_line l s ≡ Some (with_scal s (v ∷ []))
 
 -- what a text says with it
 abbrev pub with_scale : ℕ → Text → Text
@@ -152,25 +149,14 @@ with_scale v (whole s) = whole (with_scal s (v ∷ []))
 
 -- a line of which one number is none
 module _ {A : Type 0} (value : ℕ → A) (w : ℕ) (l : List ℕ) where
-  one_none : (o : Option (List A)) → one_more_number value o NoNumber ≡ none
-  unfolding one_more_number
-  one_none (some xs) = refl
-  one_none none = refl
-
-  numbers-none : (i n : ℕ) → i < n → number_at l (word_length + i * (w + 1)) w ≡ NoNumber → numbers value w l n ≡ none
-  unfolding numbers one_more_number
-  numbers-none i zero h e = absurd (omega arith)
-  numbers-none i (suc n) h e =
-      ⊎_elim (λ (p : i ≡ n). rw (← p, e) (one_none (numbers value w l i))) (λ (p : i < n). rw (numbers-none i n p e)) (eq-or-lt_of_le (le_of_suc-le-suc h))
-
-  join-none : (most : ℕ) (xs : List A) → ((n : ℕ) → 1 ≤ n → Counted (length l) w n → numbers value w l n ≡ none) → join value w most xs l ≡ none
+  join-none : (most : ℕ) (xs : List A) → ((n : ℕ) → 1 ≤ n → Counted (length l) w n → numbers value w l n ≡ None) → join value w most xs l ≡ None
   unfolding join after
   join-none most xs bad = go (leb 1 c) (leb (length xs + c) most) refl
     where
       c : ℕ
       c = count (length l) w
 
-      go : (p q : Bool) → leb 1 c ≡ p → cond (p && q) (after xs (numbers value w l c)) none ≡ none
+      go : (p q : Bool) → leb 1 c ≡ p → cond (p && q) (after xs (numbers value w l c)) None ≡ None
       go true true hp = let h : 1 ≤ c = leb-true _ _ hp in rw (bad c h (counted (length l) w c refl (λ z. omega arith)))
       go true false hp = refl
       go false q hp = refl
@@ -190,28 +176,28 @@ module _ {l : List ℕ} {v : ℕ} (scal : ScalLine l v) where
     byte-is i = get_or-append-add u l i 0
 
     -- a number of 8 digits or more of which the eighth would be no digit
-    stops : {A : Type 0} (value : ℕ → A) (w i n j : ℕ) → 7 < w → i < n → word_length + i * (w + 1) + 1 + 7 ≡ suc (length u + j) → digit (get_or l j 0) ≡ NoNumber → numbers value w whole_line n ≡ none
+    stops : {A : Type 0} (value : ℕ → A) (w i n j : ℕ) → 7 < w → i < n → word_length + i * (w + 1) + 1 + 7 ≡ suc (length u + j) → digit (get_or l j 0) ≡ None → numbers value w whole_line n ≡ None
     stops value w i n j wide h e f =
         numbers-none value w whole_line i n h (number-stop whole_line (word_length + i * (w + 1)) 7 w wide (rw (e, byte-is j) f))
 
     -- of 8 digits the last number is that of the SCAL line, and the one before it ends in the L
-    short-numbers : {A : Type 0} (value : ℕ → A) (n : ℕ) → 1 ≤ n → Counted (length whole_line) digits n → numbers value digits whole_line n ≡ none
+    short-numbers : {A : Type 0} (value : ℕ → A) (n : ℕ) → 1 ≤ n → Counted (length whole_line) digits n → numbers value digits whole_line n ≡ None
     short-numbers value n h c = stops value digits (n - 2) n 3 (omega arith) (omega (arith, c.long, length-is)) (omega (arith, c.long, length-is)) scal.letter
 
     -- of 16 digits the last number has the space among its digits
-    long-numbers : {A : Type 0} (value : ℕ → A) (n : ℕ) → 1 ≤ n → Counted (length whole_line) dual_digits n → numbers value dual_digits whole_line n ≡ none
+    long-numbers : {A : Type 0} (value : ℕ → A) (n : ℕ) → 1 ≤ n → Counted (length whole_line) dual_digits n → numbers value dual_digits whole_line n ≡ None
     long-numbers value n h c = stops value dual_digits (n - 1) n 4 (omega arith) (omega (arith, h)) (omega (arith, h, c.long, length-is)) scal.parted
 
-    no_line : (s : Lists) → add_line whole_line s ≡ none
+    no_line : (s : Lists) → add_line whole_line s ≡ None
     unfolding add_line line_of
     no_line s = go (word_of whole_line)
       where
-        go : (w : Word) → line_of w whole_line s ≡ none
-        go Data = rw (join-none plain digits whole_line most_data s.of_data (short-numbers plain))
-        go Plan = rw (join-none plain digits whole_line most_plan s.of_plan (short-numbers plain))
-        go Scal = rw (join-none plain digits whole_line most_scal s.of_scal (short-numbers plain))
-        go Dual = rw (join-none signed dual_digits whole_line most_dual s.of_dual (long-numbers signed))
-        go Other = refl
+        go : (w : Option Word) → line_of w whole_line s ≡ None
+        go (Some Data) = rw (join-none plain digits whole_line most_data s.of_data (short-numbers plain))
+        go (Some Plan) = rw (join-none plain digits whole_line most_plan s.of_plan (short-numbers plain))
+        go (Some Scal) = rw (join-none plain digits whole_line most_scal s.of_scal (short-numbers plain))
+        go (Some Dual) = rw (join-none signed dual_digits whole_line most_dual s.of_dual (long-numbers signed))
+        go None = refl
 
   -- the lines of a text with it: the last of them, or the end of the last
   abbrev Behind : Lines → Lines → Type 0
@@ -246,9 +232,9 @@ module _ {l : List ℕ} {v : ℕ} (scal : ScalLine l v) where
       go : (o : Option Lists) → add_line k s ≡ o → (b : Bool) → opens_with scal_word k ≡ b → b || scal_among rest ≡ false
           → ((r : Lists) → scal_among rest ≡ false → r.of_scal ≡ [] → read_lines h.0 (n + 1) r ≡ with_scale v (read_lines rest (n + 1) r))
           → next o n (read_lines h.0 (n + 1)) ≡ with_scale v (next o n (read_lines rest (n + 1)))
-      go none f b g i more = refl
-      go (some r) f true g i more = absurd (true≢false i)
-      go (some r) f false g i more = more r i (scal-kept k s r f g ∙ e)
+      go None f b g i more = refl
+      go (Some r) f true g i more = absurd (true≢false i)
+      go (Some r) f false g i more = more r i (scal-kept k s r f g ∙ e)
 
   pub scale-behind : (input : List ℕ) → has_scal input ≡ false → text_of (input ++ (l ++ (line_feed ∷ []))) ≡ with_scale v (text_of input)
   unfolding text_of

@@ -8,7 +8,7 @@ use native.Mathlib.Omega.{arith}
 use lib.Dec.{eqb}
 use lib.ListN.{length, take, drop}
 use Rattle.texts.specs.Format.{line_feed, line, unended, with_byte, lines}
-use Rattle.texts.specs.Buffers.{line_length}
+use Rattle.texts.specs.Numbers.{line_length}
 
 -- The lines of a text that starts with a line, or with a line that has no line feed
 

@@ -1,10 +1,7 @@
 -- The text that the certify program reads (document 01, "The certify program"): what its lines say. A text is a list of bytes. The numbers of a line are text_numbers/specs/Numbers.antt.
-use Rattle.std.specs.Prelude.{Bool, cond, ◌&&◌, List, [], ◌∷◌, ◌++◌, ℕ, zero, suc, ◌+◌, ◌*◌, ◌-◌, ◌/◌, ◌%◌, eqb, leb, ℤ, length, get_or}
-use Rattle.std.proofs.Math.Option.{Option, none, some, map}
-use Rattle.texts.specs.declared.Word.{Word}
-use Rattle.texts.specs.declared.Word.TheVariants.{Data, Plan, Scal, Dual, Other}
-use Rattle.text_numbers.specs.declared.Number.{Number}
-use Rattle.text_numbers.specs.declared.Number.TheVariants.{Value, NoNumber}
+use Rattle.std.specs.Prelude.{Bool, cond, ◌&&◌, List, [], ◌∷◌, ◌++◌, ℕ, zero, suc, ◌+◌, ◌*◌, ◌-◌, ◌/◌, ◌%◌, eqb, leb, ℤ, length, get_or, Option, Some, None, option_map}
+use Rattle.texts.specs.declared.lines.Word.{Word}
+use Rattle.texts.specs.declared.lines.Word.TheVariants.{Data, Plan, Scal, Dual}
 use Rattle.text_numbers.specs.Numbers.{number_at, signed}
 
 -- the byte behind a line
@@ -63,25 +60,25 @@ count len w =
     ((len - word_length) / (w + 1)) 0
 
 -- the numbers so far and one more
-unfoldable pub one_more_number : {A : Type 0} → (ℕ → A) → Option (List A) → Number → Option (List A)
-one_more_number value (some xs) (Value v) = some (xs ++ (value v ∷ []))
-one_more_number value (some xs) NoNumber = none
-one_more_number value none x = none
+unfoldable pub one_more_number : {A : Type 0} → (ℕ → A) → Option (List A) → Option ℕ → Option (List A)
+one_more_number value (Some xs) (Some v) = Some (xs ++ (value v ∷ []))
+one_more_number value (Some xs) None = None
+one_more_number value None x = None
 
 -- the values of the first n numbers of w digits after a line's word
 unfoldable pub numbers : {A : Type 0} → (ℕ → A) → ℕ → List ℕ → ℕ → Option (List A)
-numbers value w l zero = some []
+numbers value w l zero = Some []
 numbers value w l (suc n) = one_more_number value (numbers value w l n) (number_at l (word_length + n * (w + 1)) w)
 
 -- the numbers ys behind the numbers xs
 unfoldable pub after : {A : Type 0} → List A → Option (List A) → Option (List A)
-after xs (some ys) = some (xs ++ ys)
-after xs none = none
+after xs (Some ys) = Some (xs ++ ys)
+after xs None = None
 
 -- the numbers of a word so far, xs, joined with those of its next line, l; none where l is no line of numbers, or they are more than `most` in all
 unfoldable pub join : {A : Type 0} → (ℕ → A) → ℕ → ℕ → List A → List ℕ → Option (List A)
 join value w most xs l =
-    cond (leb 1 (count (length l) w) && leb (length xs + count (length l) w) most) (after xs (numbers value w l (count (length l) w))) none
+    cond (leb 1 (count (length l) w) && leb (length xs + count (length l) w) most) (after xs (numbers value w l (count (length l) w))) None
 
 -- whether a line's first four bytes are those of the word
 unfoldable pub opens_with : List ℕ → List ℕ → Bool
@@ -89,10 +86,11 @@ opens_with word l =
     leb word_length (length l)
     && (eqb (get_or l 0 0) (get_or word 0 0) && (eqb (get_or l 1 0) (get_or word 1 0) && (eqb (get_or l 2 0) (get_or word 2 0) && eqb (get_or l 3 0) (get_or word 3 0))))
 
--- the word that a line opens with
-unfoldable pub word_of : List ℕ → Word
+-- the word that a line opens with, or none of the four
+unfoldable pub word_of : List ℕ → Option Word
 word_of l =
-    cond (opens_with data_word l) Data (cond (opens_with plan_word l) Plan (cond (opens_with scal_word l) Scal (cond (opens_with dual_word l) Dual Other)))
+    cond (opens_with data_word l) (Some Data)
+    (cond (opens_with plan_word l) (Some Plan) (cond (opens_with scal_word l) (Some Scal) (cond (opens_with dual_word l) (Some Dual) None)))
 
 -- the numbers of each word
 pub record Lists : Type 0 where
@@ -118,12 +116,12 @@ abbrev pub with_dual : Lists → List ℤ → Lists
 with_dual s xs = record { of_data = s.of_data; of_plan = s.of_plan; of_scal = s.of_scal; of_dual = xs }
 
 -- the numbers so far, s, with those of a line that opens with the word; none where it is another line, which is a Frame
-unfoldable pub line_of : Word → List ℕ → Lists → Option Lists
-line_of Data l s = map (with_data s) (join plain digits most_data s.of_data l)
-line_of Plan l s = map (with_plan s) (join plain digits most_plan s.of_plan l)
-line_of Scal l s = map (with_scal s) (join plain digits most_scal s.of_scal l)
-line_of Dual l s = map (with_dual s) (join signed dual_digits most_dual s.of_dual l)
-line_of Other l s = none
+unfoldable pub line_of : Option Word → List ℕ → Lists → Option Lists
+line_of (Some Data) l s = option_map (with_data s) (join plain digits most_data s.of_data l)
+line_of (Some Plan) l s = option_map (with_plan s) (join plain digits most_plan s.of_plan l)
+line_of (Some Scal) l s = option_map (with_scal s) (join plain digits most_scal s.of_scal l)
+line_of (Some Dual) l s = option_map (with_dual s) (join signed dual_digits most_dual s.of_dual l)
+line_of None l s = None
 
 unfoldable pub add_line : List ℕ → Lists → Option Lists
 add_line l s = line_of (word_of l) l s
@@ -151,8 +149,8 @@ pub data Text : Type 0 where
   whole : Lists → Text
 
 abbrev pub next : Option Lists → ℕ → (Lists → Text) → Text
-next none n rest = frame_at n
-next (some s) n rest = rest s
+next None n rest = frame_at n
+next (Some s) n rest = rest s
 
 -- lines from the nth on, after lines that said s
 unfoldable pub read_lines : Lines → ℕ → Lists → Text

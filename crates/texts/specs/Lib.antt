@@ -1,3 +1,3 @@
-pub mod Buffers
 pub mod Claims
 pub mod Format
+pub mod Numbers

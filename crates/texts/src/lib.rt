@@ -1,7 +1,15 @@
-// The lines of the certify program's text input, read into lent buffers.
+// The lines of the certify program's text input, and the numbers that they bring.
 #![tactic(auto)]
 
-pub mod lines;
+ghost use Rattle.std.specs.Prelude.{◌≡◌, Some};
+ghost use Rattle.std.specs.Option.{option_and};
+ghost use Rattle.texts.specs.Format.{no_lists, add_line};
+ghost use Rattle.texts.specs.Numbers.{lists_in};
+
+mod lines;
+
+use crate::lines::{Word, join, word_of};
+use arrayvec::ArrayVec;
 
 // The most numbers of each word on all its lines.
 pub const MOST_DATA: usize = 4096;
@@ -12,35 +20,33 @@ pub const MOST_SCAL: usize = 1;
 
 pub const MOST_DUAL: usize = 4096;
 
-// The word that a line opens with.
-#[derive(Clone, Copy)]
-pub enum Word {
-    Data,
-    Plan,
-    Scal,
-    Dual,
-    Other,
+// The numbers of each word that the lines of a text have brought.
+#[derive(Debug, Default, PartialEq, Eq, Drop)]
+pub struct Numbers {
+    pub data: ArrayVec<u32, MOST_DATA>,
+    pub plan: ArrayVec<u32, MOST_PLAN>,
+    pub scal: ArrayVec<u32, MOST_SCAL>,
+    pub dual: ArrayVec<i64, MOST_DUAL>,
 }
 
-// How many numbers of each word its buffer holds.
-#[derive(Clone, Copy)]
-pub struct Used {
-    pub data: usize,
-    pub plan: usize,
-    pub scal: usize,
-    pub dual: usize,
-}
+impl Numbers {
+    // Before the first line.
+    pub fn new() -> Self
+        ensures { lists_in result ≡ no_lists }
+    {
+        Self::default()
+    }
 
-// What the buffers hold with the numbers of a line, or none where that line is a Frame.
-#[derive(Clone, Copy)]
-pub enum Line {
-    Read(Used),
-    NoLine,
-}
-
-// What the buffers hold with the numbers of all lines, or the number of the first line that is a Frame.
-#[derive(Clone, Copy)]
-pub enum Reading {
-    Whole(Used),
-    FrameAt(usize),
+    // Adds the numbers of a line to those of its word's earlier lines; none where the line is a Frame.
+    #[tactic(auto, unfolding(crate::specs::Format::add_line, crate::specs::Format::line_of))]
+    pub fn read_line(&mut self, line: &[u8]) -> Option<()>
+        ensures { option_and result (Some (lists_in self.new)) ≡ add_line line.now (lists_in self.old) }
+    {
+        match word_of(line)? {
+            Word::Data => join(&mut self.data, line),
+            Word::Plan => join(&mut self.plan, line),
+            Word::Scal => join(&mut self.scal, line),
+            Word::Dual => join(&mut self.dual, line),
+        }
+    }
 }

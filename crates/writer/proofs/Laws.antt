@@ -1,165 +1,130 @@
--- Laws of words added to a line, and of names in a list.
-use mathlib.Core.Bool.{Bool, true, false, cond}
+-- Laws of words added to a line, of decimal digits, and of names by number.
 use mathlib.Core.Path.{◌≡◌, refl, sym, ap, ◌∙◌}
-use mathlib.Core.List.{List, [], ◌∷◌, ◌++◌, append_assoc, append-nil}
-use Prim.Native.Nat.{ℕ, zero, suc, ◌+◌, ◌-◌, ◌≤◌, ◌<◌}
-use native.Mathlib.Nat.{zero-add}
-use native.Mathlib.Numerals.{add-one}
+use mathlib.Core.Logic.{◌⊎◌, inl, inr, ⊎_elim}
+use mathlib.Core.List.{List, [], ◌∷◌, ◌++◌, map, append_assoc, append-nil}
+use Prim.Native.Nat.{ℕ, zero, suc, min, ◌+◌, ◌-◌, ◌/◌, ◌%◌, ◌^◌, ◌≤◌, ◌<◌}
+use native.Mathlib.Nat.{eq-zero-or-pos, pow-suc, sub-zero}
 use native.Mathlib.Omega.{arith}
-use lib.Dec.{eqb}
-use lib.ListN.{length, get_or, set, take, drop, length-set, length-drop, take-append-drop, drop_of_length-le}
-use lib.Seq.{length-take-le, take_all, take-suc, drop-cons, drop-drop, append_snoc, take_at, take-suc-set, get_or-drop, length-sets, sets-eq}
-use borrow.Author.Tests.{eq-eqb, ne_eqb}
-use Rattle.answer_line.specs.Place.{Put}
-use Rattle.writer.specs.Writing.{room, Said}
-use Rattle.writer.specs.Names.{slash, first_name, other_names, name_at, Named}
+use mathlib.Core.Bool.{true, false}
+use lib.Dec.{ltb}
+use lib.ListN.{length, get_or, take, length-append}
+use lib.Seq.{take-nil, take_all}
+use borrow.Author.Tests.{lt-ltb, le-ltb, true-ltb, false-ltb}
+use denote.Bor.{Bor}
+use Rattle.std.specs.Fmt.{decimal as shown}
+use Rattle.std.proofs.lemmas.Fmt.{decimal_by_steps}
+use Rattle.std.proofs.Math.Nat.{min_comm}
+use Rattle.std.proofs.lemmas.List.{get_or-map, length-map, take_min}
+use Rattle.writer.specs.Decimal.{digit, digits_within, decimal}
+use Rattle.writer.specs.Writing.{added}
 
--- A prefix of n bytes is the same whether or not the front was cut to n bytes before.
+-- Words added one after the other.
 
-take-front : (n : ℕ) (p q : List ℕ) → take n (take n p ++ q) ≡ take n (p ++ q)
-take-front zero p q = refl
-take-front (suc n) [] q = refl
-take-front (suc n) (b ∷ p) q = ap (λ (l : List ℕ). b ∷ l) (take-front n p q)
+take-joined : (n : ℕ) (p q : List ℕ) → take n p ++ take (n - length (take n p)) q ≡ take n (p ++ q)
+take-joined zero p q = refl
+take-joined (suc n) [] q = rw sub-zero refl
+take-joined (suc n) (b ∷ p) q =
+    let e : suc n - suc (length (take n p)) ≡ n - length (take n p) = omega arith in
+    rw e (ap (λ (l : List ℕ). b ∷ l) (take-joined n p q))
 
-take-low : (n m : ℕ) (l : List ℕ) → n ≤ m → take m (take n l) ≡ take n l
-take-low zero zero l h = refl
-take-low zero (suc m) l h = refl
-take-low (suc n) zero l h = absurd (omega arith)
-take-low (suc n) (suc m) [] h = refl
-take-low (suc n) (suc m) (b ∷ l) h = ap (λ (k : List ℕ). b ∷ k) (take-low n m l (omega arith))
+-- no words
+pub added-none : (size : ℕ) (l : List ℕ) → added size l [] ≡ l
+unfolding added
+added-none size l = rw take-nil (append-nil l)
 
--- nothing said
-pub said-none : (l : List ℕ) {at : ℕ} → at ≤ room → Said l at [] at l
-said-none l {at} h = record { kept = refl; within = h; held = rw (append-nil, take-low at room l h) }
+-- several words at once are each behind the one before
+pub added_joined : (size : ℕ) (l p q : List ℕ) → added size l (p ++ q) ≡ added size (added size l p) q
+unfolding added
+added_joined size l p q =
+    let n = size - length l in
+    let m : size - length (l ++ take n p) ≡ n - length (take n p) = omega (arith, length-append l (take n p)) in
+    rw (m, append_assoc) (ap (λ (k : List ℕ). l ++ k) (sym (take-joined n p q)))
 
--- one after the other
-pub said-joined : {l m k p q : List ℕ} {at r t : ℕ} → Said l at p r m → Said m r q t k → Said l at (p ++ q) t k
-said-joined {l = l} {p = p} {q = q} {at = at} f g =
-    record { kept = g.kept ∙ f.kept; within = g.within; held = g.held ∙ rw (f.held, take-front room (take at l ++ p) q, append_assoc) }
+-- the same of the line before, between and after
+pub said-joined : (size : ℕ) (l p q : List ℕ) {m k : List ℕ} → m ≡ added size l p → k ≡ added size m q → k ≡ added size l (p ++ q)
+said-joined size l p q e f = f ∙ rw (e, added_joined size l p q)
 
 -- from the start of a line
-pub said-whole : {l m p : List ℕ} {r : ℕ} → Said l 0 p r m → take r m ≡ take room p
-said-whole f = f.held
+pub added-whole : (size : ℕ) (p : List ℕ) → added size [] p ≡ take size p
+unfolding added
+added-whole size p = rw sub-zero refl
 
--- The loop of `say`: behind the first `at` bytes the line holds the first i words.
+-- The digits do not depend on the bound of the divisions.
 
-pub record Saying (l : List ℕ) (at : ℕ) (words m : List ℕ) (next i : ℕ) : Type 0 where
-  pub full : length m ≡ length l
-  pub so : take next m ≡ take at l ++ take i words
+pub low_or_high : (n : ℕ) → (n < 10) ⊎ (10 ≤ n)
+low_or_high n = ⊎_elim (λ (z : n / 10 ≡ 0). inl (omega arith)) (λ (p : 0 < n / 10). inr (omega arith)) (eq-zero-or-pos (n / 10))
 
-pub saying-none : (l words : List ℕ) (at : ℕ) → Saying l at words l at 0
-saying-none l words at = record { full = refl; so = sym (append-nil _) }
+pub within_low : (k n : ℕ) → n < 10 → digits_within k n ≡ digit n ∷ []
+unfolding digits_within
+within_low zero n h = refl
+within_low (suc k) n h = rw (lt-ltb n 10 h)
 
-module _ {l m words : List ℕ} {at next i : ℕ} (long : length l ≡ room) (f : Saying l at words m next i) where
-  pub saying-more : next < room → i < length words → Saying l at words (set m next (get_or words i 0)) (next + 1) (i + 1)
-  saying-more h k =
-      record {
-        full = length-set m next _ ∙ f.full;
-        so = rw (add-one next, add-one i, take-suc-set m next (get_or words i 0) (rw (f.full, long) h), f.so, take-suc words i 0 k) (append_assoc (take at l) (take i words) _);
-      }
+pub within-high : (k n : ℕ) → 10 ≤ n → digits_within (suc k) n ≡ digits_within k (n / 10) ++ (digit (n % 10) ∷ [])
+unfolding digits_within
+within-high k n h = rw (le-ltb n 10 h)
 
-  held-length : next ≤ room → length (take at l ++ take i words) ≡ next
-  held-length h = ap length (sym f.so) ∙ length-take-le next m (rw (f.full, long) h)
+within_same : (a b n : ℕ) → n < 10 ^ suc a → n < 10 ^ suc b → digits_within a n ≡ digits_within b n
+within_same zero b n h k = rw (within_low 0 n (omega arith), within_low b n (omega arith))
+within_same (suc a) zero n h k = rw (within_low (suc a) n (omega arith), within_low 0 n (omega arith))
+within_same (suc a) (suc b) n h k =
+    ⊎_elim (λ (low : n < 10). rw (within_low (suc a) n low, within_low (suc b) n low))
+    (λ (high : 10 ≤ n). rw (within-high a n high, within-high b n high, within_same a b (n / 10) (omega (arith, pow-suc 10 (suc a))) (omega (arith, pow-suc 10 (suc b)))))
+    (low_or_high n)
 
-  -- no room is left
-  pub said-full : next ≡ room → Said l at words next m
-  said-full e =
-      let h : next ≤ room = omega (arith, e) in
-      let all : (take at l ++ take i words) ++ drop i words ≡ take at l ++ words = append_assoc (take at l) (take i words) (drop i words) ∙ rw take-append-drop in
-      record { kept = f.full; within = h; held = f.so ∙ sym (take_at (take at l ++ take i words) (drop i words) room (held-length h ∙ e)) ∙ ap (take room) all }
+enough : (n : ℕ) → n < 10 ^ suc n
+enough zero = omega arith
+enough (suc n) = omega (arith, pow-suc 10 (suc n), enough n)
 
-  -- no words are left
-  pub said_all : next ≤ room → length words ≤ i → Said l at words next m
-  said_all h k =
-      let e : take i words ≡ words = take_all i words k in
-      let n : length (take at l ++ words) ≤ room = omega (arith, rw e at (held-length h)) in
-      record { kept = f.full; within = h; held = (rw e at f.so) ∙ sym (take_all room (take at l ++ words) n) }
+-- a number below 10 to the k + 1 takes at most k divisions
+pub decimal-few : (k n : ℕ) → n < 10 ^ suc k → decimal n ≡ digits_within k n
+unfolding decimal
+decimal-few k n h = within_same n k n (enough n) h
 
--- the same words, found in another list
-pub said_same : {l m p q : List ℕ} {at r : ℕ} → p ≡ q → Said l at p r m → Said l at q r m
-said_same e f = rw (← e) f
+decimal-low : (n : ℕ) → n < 10 → decimal n ≡ digit n ∷ []
+unfolding decimal
+decimal-low n h = within_low n n h
 
--- Words put at the start of a list that has room for them: they end within it, and are its first bytes.
+decimal-high : (n : ℕ) → 10 ≤ n → decimal n ≡ decimal (n / 10) ++ (digit (n % 10) ∷ [])
+unfolding decimal
+decimal-high zero h = absurd (omega arith)
+decimal-high (suc n) h = within-high n (suc n) h ∙ rw (within_same n (suc n / 10) (suc n / 10) (omega (arith, enough n)) (enough (suc n / 10)))
 
-module _ (l p : List ℕ) {m : List ℕ} {r : ℕ} (f : Put l 0 p r m) (h : length p ≤ length l) where
-  pub put-within : r ≤ length m
-  put-within = rw (f.held, length-sets, f.place, zero-add) h
+within-length : (k n : ℕ) → length (digits_within k n) ≤ suc k
+unfolding digits_within
+within-length zero n = omega arith
+within-length (suc k) n =
+    ⊎_elim (λ (low : n < 10). rw (within_low (suc k) n low) (omega arith))
+    (λ (high : 10 ≤ n). rw (within-high k n high, length-append) (omega (arith, within-length k (n / 10))))
+    (low_or_high n)
 
-  pub put_first : take (r - 0) m ≡ p
-  put_first =
-      let e : r - 0 ≡ length p = omega (arith, f.place) in
-      rw (e, f.held, sets-eq p l 0 (rw zero-add h)) (take_at p _ (length p) refl)
+pub decimal-length : (n : ℕ) → n < 2 ^ 64 → length (decimal n) ≤ 20
+decimal-length n h = rw (decimal-few 19 n (omega arith)) (within-length 19 n)
 
--- Names: at i the first name goes on, ends at a slash, or ends with the list.
+-- the library's digits of a number are these
+pub shown_decimal : (n : ℕ) → n < 2 ^ 64 → shown n ≡ decimal n
+shown_decimal n h =
+    decimal_by_steps (λ (n : ℕ) (ds : List ℕ). ds ≡ decimal n) (λ n low. sym (decimal-low n low))
+    (λ n ds high e. rw e (sym (decimal-high n high))) n h
 
-on-byte : {b : ℕ} (bs : List ℕ) → (b ≡ slash → ⊥) → first_name (b ∷ bs) ≡ b ∷ first_name bs
-unfolding first_name
-on-byte {b} bs f = rw (ne_eqb b slash f)
+-- as many words as there is room for
+pub take_fitting : (n : ℕ) (words : List ℕ) → take (min (length words) n) words ≡ take n words
+take_fitting n words = rw (min_comm (length words) n) (take_min n words)
 
-on-slash : {b : ℕ} (bs : List ℕ) → b ≡ slash → first_name (b ∷ bs) ≡ []
-unfolding first_name
-on-slash {b} bs f = rw (eq-eqb b slash f)
+-- The list of number k, of lists that the code lends.
 
-on-end : first_name [] ≡ []
-unfolding first_name
-on-end = refl
+module _ {A : Type 0} (lists : List (Bor (List A))) (k : ℕ) where
+  pub list-found : {list : Bor (List A)} → true ≡ ltb k (length lists) → list ≡ get_or lists k list → get_or (map (λ (lent : Bor (List A)). lent.now) lists) k [] ≡ list.now
+  list-found {list} h e = get_or-map (λ (lent : Bor (List A)). lent.now) lists k list [] (true-ltb k (length lists) h) ∙ ap (λ (lent : Bor (List A)). lent.now) (sym e)
 
-module _ (l : List ℕ) (from i : ℕ) (so : take (i - from) (drop from l) ++ first_name (drop i l) ≡ first_name (drop from l)) where
-  pub name-on : from ≤ i → i < length l → (get_or l i 0 ≡ slash → ⊥) → take (i + 1 - from) (drop from l) ++ first_name (drop (i + 1) l) ≡ first_name (drop from l)
-  name-on h k e =
-      let n : i + 1 - from ≡ suc (i - from) = omega arith in
-      let p : from + (i - from) ≡ i = omega arith in
-      let t : take (suc (i - from)) (drop from l) ≡ take (i - from) (drop from l) ++ (get_or l i 0 ∷ []) = take-suc (drop from l) (i - from) 0 (omega (arith, length-drop from l)) ∙ rw (get_or-drop, p) in
-      let f : first_name (drop i l) ≡ get_or l i 0 ∷ first_name (drop (i + 1) l) = rw (drop-cons l i 0 k, add-one i) (on-byte _ e) in
-      rw (n, t) (append_snoc (take (i - from) (drop from l)) (get_or l i 0) (first_name (drop (i + 1) l)) ∙ (rw f at so))
+  pub list-past : false ≡ ltb k (length lists) → get_or (map (λ (lent : Bor (List A)). lent.now) lists) k [] ≡ []
+  list-past h = past (map (λ (lent : Bor (List A)). lent.now) lists) k (rw length-map (false-ltb k (length lists) h))
+    where
+      past : (l : List (List A)) (i : ℕ) → length l ≤ i → get_or l i [] ≡ []
+      past [] i h = refl
+      past (x ∷ l) zero h = absurd (omega arith)
+      past (x ∷ l) (suc i) h = past l i (omega arith)
 
-  name-found : first_name (drop i l) ≡ [] → take (i - from) (drop from l) ≡ first_name (drop from l)
-  name-found e = sym (append-nil _) ∙ (rw e at so)
-
-  pub name-ends : i < length l → get_or l i 0 ≡ slash → take (i - from) (drop from l) ≡ first_name (drop from l)
-  name-ends k e = name-found (rw (drop-cons l i 0 k) (on-slash _ e))
-
-  pub names-end : length l ≤ i → take (i - from) (drop from l) ≡ first_name (drop from l)
-  names-end k = name-found (rw (drop_of_length-le l k) on-end)
-
-pub name-start : (l : List ℕ) (from : ℕ) → take (from - from) (drop from l) ++ first_name (drop from l) ≡ first_name (drop from l)
-name-start l from = let e : from - from ≡ 0 = omega arith in rw e
-
--- The names behind the first.
-
-others-behind : (l : List ℕ) → other_names l ≡ drop (suc (length (first_name l))) l
-unfolding first_name other_names
-others-behind [] = refl
-others-behind (b ∷ bs) = go (eqb b slash) (others-behind bs)
-  where
-    go : (f : Bool) → other_names bs ≡ drop (suc (length (first_name bs))) bs → cond f bs (other_names bs) ≡ drop (suc (length (cond f [] (b ∷ first_name bs)))) (b ∷ bs)
-    go true e = refl
-    go false e = e
-
--- the first name from `from` on ends at `end`
-module _ (l : List ℕ) {from end : ℕ} (f : (from ≤ end) × ((end ≤ length l) × (take (end - from) (drop from l) ≡ first_name (drop from l)))) where
-  pub others-found : drop (end + 1) l ≡ other_names (drop from l)
-  others-found =
-      let n : suc (length (first_name (drop from l))) ≡ suc (end - from) = ap (λ (k : List ℕ). suc (length k)) (sym f.1.1) ∙ ap suc (length-take-le (end - from) (drop from l) (omega (arith, f.0, f.1.0, length-drop from l))) in
-      let p : from + suc (end - from) ≡ end + 1 = omega (arith, f.0) in
-      sym (others-behind (drop from l) ∙ rw (n, drop-drop, p))
-
-  pub others-none : end ≡ length l → drop end l ≡ other_names (drop from l)
-  others-none e =
-      let h : length l ≤ end = omega (arith, e) in
-      let k : length l ≤ end + 1 = omega (arith, e) in
-      drop_of_length-le l h ∙ sym (drop_of_length-le l k) ∙ others-found
-
--- The name of number k.
-
-pub name-later : (l : List ℕ) {others : List ℕ} (k : ℕ) → 0 < k → others ≡ other_names l → name_at others (k - 1) ≡ name_at l k
-unfolding name_at
-name-later l zero h e = absurd (omega arith)
-name-later l (suc k) h e = let p : suc k - 1 ≡ k = omega arith in rw (p, e)
-
--- where no name is left to pass, the first name from there on is the one asked for
-pub named : (l : List ℕ) (k left : ℕ) {from end : ℕ} → left ≡ 0 → name_at (drop from l) left ≡ name_at l k
-    → (from ≤ end) × ((end ≤ length l) × (take (end - from) (drop from l) ≡ first_name (drop from l)))
-    → Named l k (record { from = from; end = end })
-unfolding name_at
-named l k left e so f = record { ordered = f.0; within = f.1.0; held = f.1.1 ∙ (rw e at so) }
+-- words that there is room for
+pub added-fitting : (size : ℕ) (l p : List ℕ) → length l + length p ≤ size → added size l p ≡ l ++ p
+unfolding added
+added-fitting size l p h = rw (take_all (size - length l) p (omega arith))

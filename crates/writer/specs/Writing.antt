@@ -1,16 +1,10 @@
--- Words added behind the first bytes of a line of fixed room.
-use Rattle.std.specs.Prelude.{◌≡◌, List, ◌++◌, ℕ, ◌≤◌, length, take}
+-- Words added to a line of fixed room.
+use Rattle.std.specs.Prelude.{List, ◌++◌, ℕ, ◌-◌, length, take}
 
--- the bytes that a line has room for: `ROOM` in the code
+-- the bytes that the line of an explanation has room for: `ROOM` in the code
 abbrev pub room : ℕ
 room = 1024
 
--- a line of that room, of which the first `at` bytes are said
-abbrev pub Started : List ℕ → ℕ → Type 0
-Started line at = (length line ≡ room) × (at ≤ room)
-
--- behind the first `at` bytes of the line stand the words, as far as there is room, up to the place `next`; the line keeps its length
-pub record Said (before : List ℕ) (at : ℕ) (words : List ℕ) (next : ℕ) (after : List ℕ) : Type 0 where
-  pub kept : length after ≡ length before
-  pub within : next ≤ room
-  pub held : take next after ≡ take room (take at before ++ words)
+-- a line that has room for `size` bytes, and behind its bytes the words, as far as there is room
+unfoldable pub added : ℕ → List ℕ → List ℕ → List ℕ
+added size line words = line ++ take (size - length line) words

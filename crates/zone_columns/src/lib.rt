@@ -11,10 +11,9 @@ ghost use Rattle.column_terms.specs.Pairs.{pair_of};
 ghost use Rattle.column_terms.specs.Pairs.{RowAt};
 ghost use Rattle.tables.specs.Lists.{data_of};
 
-use duals::{Multipliers, Pricing};
 use column_terms::Pair;
-use column_terms::pairs::{add_row, add_row_if, none, take_row, take_row_if};
 use column_terms::readers::delivered;
+use duals::{Multipliers, Pricing};
 use tables::families::{BALANCE, SPINNING, TRANSFER};
 
 // From z to w: families 1 (z sends, w receives less the loss), 2 and 3.
@@ -23,10 +22,12 @@ pub fn trans_column(pricing: &Pricing, y: usize, z: usize, w: usize, s: usize) -
     ensures { result ≡ pair_of pricing.now.multipliers.counts pricing.now.multipliers.list.now (trans_in⁺ (data_of pricing.now.tested.tables.now) y z w s) (trans_in⁻ (data_of pricing.now.tested.tables.now) y z w s) }
 {
     let kept = delivered(&pricing.tested, y, z, w);
-    let p = add_row_if(z != w, none(), kept, &pricing.multipliers, BALANCE, y, w, 0, s);
-    let q = take_row_if(z != w, p, 1000, &pricing.multipliers, BALANCE, y, z, 0, s);
-    let r = take_row(q, 1, &pricing.multipliers, TRANSFER, y, z, w, s);
-    take_row_if(z != w, r, 1000, &pricing.multipliers, SPINNING, y, w, 0, s)
+    let multipliers = &pricing.multipliers;
+    Pair::none()
+        .add_row_if(z != w, kept, multipliers, BALANCE, y, w, 0, s)
+        .take_row_if(z != w, 1000, multipliers, BALANCE, y, z, 0, s)
+        .take_row(1, multipliers, TRANSFER, y, z, w, s)
+        .take_row_if(z != w, 1000, multipliers, SPINNING, y, w, 0, s)
 }
 
 // Unmet, spinshort and firmshort: what a row of family 1, 3 or 4 (`k` counts from 0) is short of.
@@ -34,7 +35,7 @@ pub fn shortfall_column(multipliers: &Multipliers, k: usize, y: usize, z: usize,
     requires { RowAt multipliers.now.counts k y z 0 s }
     ensures { result ≡ pair_of multipliers.now.counts multipliers.now.list.now (1 · index k y z 0 s) nothing }
 {
-    add_row(none(), 1, multipliers, k, y, z, 0, s)
+    Pair::none().add_row(1, multipliers, k, y, z, 0, s)
 }
 
 // Family 1.
@@ -42,5 +43,5 @@ pub fn surplus_column(multipliers: &Multipliers, y: usize, z: usize, s: usize) -
     requires { (y < multipliers.now.counts.years) × ((z < multipliers.now.counts.zones) × (s < slices_of multipliers.now.counts)) }
     ensures { result ≡ pair_of multipliers.now.counts multipliers.now.list.now nothing (1 · row 1 y z 0 s) }
 {
-    take_row(none(), 1, multipliers, BALANCE, y, z, 0, s)
+    Pair::none().take_row(1, multipliers, BALANCE, y, z, 0, s)
 }

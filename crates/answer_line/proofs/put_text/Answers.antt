@@ -1,25 +1,11 @@
-use native.Mathlib.Omega.{arith}
+use Rattle.writer.proofs.Laws.{said-joined}
 use Rattle.answer_line.specs.Line.{line_with}
-use Rattle.answer_line.proofs.Laws.{decimal-length, put-joined}
+use Rattle.answer_line.proofs.Laws.{short-text}
 use Rattle.answer_line.proofs.put_text.Goals as goal
 
-pub put_decimal-after_first-requires : goal.put_decimal-after_first-requires
-put_decimal-after_first-requires c = omega (arith, decimal-length _ c.ranges.first.fits)
-
-pub put_byte-before_second-requires : goal.put_byte-before_second-requires
-put_byte-before_second-requires c = omega (arith, decimal-length _ c.ranges.first.fits)
-
-pub put_decimal-after_second-requires : goal.put_decimal-after_second-requires
-put_decimal-after_second-requires c = let f = c.ranges in omega (arith, decimal-length _ f.first.fits, decimal-length _ f.second.fits)
-
-pub put_byte-requires : goal.put_byte-requires
-put_byte-requires c = let f = c.ranges in omega (arith, decimal-length _ f.first.fits, decimal-length _ f.second.fits)
-
-pub returns : goal.returns
+pub returns-clause-said : goal.returns-clause-said
 unfolding line_with
-returns c =
-    let f = c.ranges in (
-      put-joined c.put_byte-after_letter.ensures (put-joined c.put_byte-before_first.ensures (put-joined c.put_decimal-after_first.ensures
-          (put-joined c.put_byte-before_second.ensures (put-joined c.put_decimal-after_second.ensures c.put_byte.ensures)))),
-      omega (arith, decimal-length _ f.first.fits, decimal-length _ f.second.fits),
-    )
+returns-clause-said g c = said-joined _ _ _ _ c.say.ensures (said-joined _ _ _ _ c.say_with.ensures (said-joined _ _ _ _ c.say_with-2.ensures c.say-2.ensures))
+
+pub returns-clause-short : goal.returns-clause-short
+returns-clause-short g c = short-text c.args.letter c.args.first c.args.second c.ranges.first.fits c.ranges.second.fits

@@ -6,5 +6,5 @@ use Rattle.cable_columns.proofs.built_column.Goals as goal
 pub returns : goal.returns
 unfolding built_in⁻
 returns c D =
-    priced-as (take-priced (take-priced (none-priced c.none.ensures) c.take_row-p.ensures) c.take_row.ensures)
+    priced-as (take-priced (take-priced (none-priced c.none.ensures) c.take_row.ensures) c.take_row-2.ensures)
     _ _ (λ m. omega arith) (λ m. omega arith)

@@ -6,5 +6,5 @@ use Rattle.cable_columns.proofs.total_in_slice.Goals as goal
 pub returns : goal.returns
 unfolding total_in_slice⁺
 returns c D power =
-    let t1 = add-priced (none-priced c.none.ensures) c.add_row-p.ensures in
-    priced-as (add-priced-if t1 _ c.add_row_if.ensures) _ _ (λ m. rw (← power) (omega arith)) (λ m. omega arith)
+    priced-as (add-priced-if (add-priced (none-priced c.none.ensures) c.add_row.ensures) _ c.add_row_if.ensures)
+    _ _ (λ m. rw (← power) (omega arith)) (λ m. omega arith)

@@ -1,5 +1,4 @@
 use mathlib.Core.Path.{sym, ◌∙◌}
-use Prim.Native.Nat.{◌-◌}
 use native.Mathlib.Omega.{arith}
 use Rattle.sums.proofs.Sums.{sum-const-zero}
 use Rattle.column_terms.proofs.Laws.{none-priced, priced-as, walked_none, walked_more, walked_all}
@@ -13,17 +12,10 @@ returns-then-power-eq0 c =
 pub loop-s-init : goal.loop-s-init
 loop-s-init c = walked_none c.none-p.ensures
 
-pub total_in_slice-requires : goal.total_in_slice-requires
-total_in_slice-requires c =
-    let p = c.requires in
-    ((c.args.pricing.now.tables_at.counted, (c.args.pricing.now.rows_at, c.by_pair-power.ensures.1)), (c.requires.0, (c.requires.1.0, (c.requires.1.1, omega (arith, c.slices_of-n.ensures.0, c.loop-s-test.true)))))
-
 pub loop-s-preserved : goal.loop-s-preserved
-loop-s-preserved c =
-    walked_more c.loop-s.invariant (omega (arith, c.slices_of-n.ensures.0, c.loop-s-test.true))
-    (c.total_in_slice.ensures _ c.by_pair-power.ensures.0) c.join-p.ensures
+loop-s-preserved c = walked_more c.loop-s.invariant c.loop-s-test.true (c.total_in_slice.ensures _ c.by_pair-power.ensures.0) c.join-p.ensures
 
 pub returns : goal.returns
 returns c =
-    let all = walked_all c.loop-s.invariant (omega (arith, c.slices_of-n.ensures.0, c.loop-s-test.false)) in
-    priced-as (record { is = all }) _ _ (λ m. omega arith) (λ m. sum-const-zero _)
+    let all = walked_all c.loop-s.invariant c.loop-s-test.false in
+    rw (← c.slices_of-s-end.ensures.0) (priced-as (record { is = all }) _ _ (λ m. omega arith) (λ m. sum-const-zero _))

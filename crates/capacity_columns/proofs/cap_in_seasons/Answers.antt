@@ -1,4 +1,3 @@
-use Prim.Native.Nat.{◌-◌}
 use Rattle.column_terms.proofs.Laws.{walked_none, walked_more, walked_all}
 use Rattle.capacity_columns.proofs.cap_in_seasons.Goals as goal
 

@@ -5,9 +5,9 @@ use Rattle.column_words.proofs.say_priced.Goals as goal
 pub returns : goal.returns
 unfolding priced_words
 returns c =
-    said-joined c.say-first.ensures
-    (said-joined c.say_amount-above.ensures
-    (said-joined c.say-second.ensures
-    (said-joined c.say_amount-below.ensures
-    (said-joined c.say-third.ensures
-    c.say_amount.ensures))))
+    said-joined _ _ _ _ c.say.ensures
+    (said-joined _ _ _ _ c.say_amount.ensures
+    (said-joined _ _ _ _ c.say-2.ensures
+    (said-joined _ _ _ _ c.say_amount-2.ensures
+    (said-joined _ _ _ _ c.say-3.ensures
+    c.say_amount-3.ensures))))

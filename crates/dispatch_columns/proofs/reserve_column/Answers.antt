@@ -6,10 +6,6 @@ use Rattle.dispatch_columns.proofs.reserve_column.Goals as goal
 pub returns : goal.returns
 unfolding reserve_in⁺ reserve_in⁻
 returns c =
-    let t0 = none-priced c.none.ensures in
-    let t1 = add-priced t0 c.add_row-p.ensures in
-    let t2 = take-priced t1 c.take_row-q.ensures in
-    let t3 = take-priced t2 c.take_row.ensures in
-    priced-as t3 _ _
+    priced-as (take-priced (take-priced (add-priced (none-priced c.none.ensures) c.add_row.ensures) c.take_row.ensures) c.take_row-2.ensures) _ _
     (λ m. rw c.zone_of-z.ensures.0 (omega arith))
     (λ m. omega arith)

@@ -1,6 +1,6 @@
 use Rattle.model.specs.Calls.{outcome}
 use mathlib.Core.Path.{refl, sym, ap, ◌∙◌}
-use Prim.Native.Nat.{◌-◌, ◌<◌}
+use Prim.Native.Nat.{◌<◌}
 use lib.ListN.{length}
 use native.Mathlib.Omega.{arith}
 use Rattle.sums.proofs.Spans.{upto-stop}
@@ -26,19 +26,15 @@ loop-i-init c = begun c.loop-y.invariant.going c.loop-y.invariant.here
 pub loop-j-init : goal.loop-j-init
 loop-j-init c = begun c.loop-i.invariant.going c.loop-i.invariant.here
 
-pub range_at-r-requires : goal.range_at-r-requires
-range_at-r-requires c =
-    (c.args.tables.now.laid_out, (c.walk-test.true, rw c.table_box-b.ensures.0 at c.loop-i-test.true))
-
 pub loop-s-init : goal.loop-s-init
 loop-s-init c = begun c.loop-j.invariant.going c.loop-j.invariant.here
 
-pub offset_bounds-data-place : goal.offset_bounds-data-place
-offset_bounds-data-place c = let below : c.loop-s.place < length c.args.tables.now.list.now = place-below c.args.tables.now.laid_out c.walk-test.true c.table_box-b.ensures.0
+pub offset_bounds-tables-place : goal.offset_bounds-tables-place
+offset_bounds-tables-place c = let below : c.loop-s.place < length c.args.tables.now.list.now = place-below c.args.tables.now.laid_out c.walk-test.true c.table_box-b.ensures.0
     c.loop-y-test.true c.loop-i-test.true c.loop-j-test.true c.loop-s-test.true c.loop-s.invariant.here in omega (arith, below)
 
-pub bounds-data-place : goal.bounds-data-place
-bounds-data-place c = let below : c.loop-s.place < length c.args.tables.now.list.now = place-below c.args.tables.now.laid_out c.walk-test.true c.table_box-b.ensures.0
+pub bounds-tables-place : goal.bounds-tables-place
+bounds-tables-place c = let below : c.loop-s.place < length c.args.tables.now.list.now = place-below c.args.tables.now.laid_out c.walk-test.true c.table_box-b.ensures.0
     c.loop-y-test.true c.loop-i-test.true c.loop-j-test.true c.loop-s-test.true c.loop-s.invariant.here in omega (arith, below)
 
 pub overflow_add-place : goal.overflow_add-place

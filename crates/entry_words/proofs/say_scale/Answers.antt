@@ -4,4 +4,4 @@ use Rattle.entry_words.proofs.say_scale.Goals as goal
 
 pub returns : goal.returns
 unfolding scale_words
-returns c = said-joined c.say-named.ensures c.say_range.ensures
+returns c = said-joined _ _ _ _ c.say.ensures c.say_range.ensures

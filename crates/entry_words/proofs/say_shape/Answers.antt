@@ -6,7 +6,7 @@ pub returns : goal.returns
 unfolding shape_words
 returns c =
     rw (← c.number_at-is.ensures.0, ← c.most_count-most.ensures)
-    (said-joined c.say_with-numbered.ensures
-    (said-joined c.say-listed.ensures
-    (said-joined c.say_name-named.ensures
+    (said-joined _ _ _ _ c.say_with.ensures
+    (said-joined _ _ _ _ c.say.ensures
+    (said-joined _ _ _ _ c.say_name.ensures
     c.say_range.ensures)))

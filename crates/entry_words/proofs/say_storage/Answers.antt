@@ -4,4 +4,4 @@ use Rattle.entry_words.proofs.say_storage.Goals as goal
 
 pub returns : goal.returns
 unfolding storage_words
-returns c = said-joined c.say_counted-named.ensures c.say.ensures
+returns c = said-joined _ _ _ _ c.say_counted.ensures c.say.ensures

@@ -8,5 +8,5 @@ returns c =
     c.year_weight-share.ensures
     c.hour_price.ensures
     c.scale-price.ensures
-    c.weighted_hours-hours.ensures
+    (rw (← c.args.case.now.same_counts) at c.weighted_hours-hours.ensures)
     c.multiply.ensures

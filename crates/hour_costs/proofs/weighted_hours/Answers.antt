@@ -1,5 +1,4 @@
 use mathlib.Core.Path.{◌∙◌}
-use Prim.Native.Nat.{◌-◌}
 use Rattle.capped.proofs.Laws.{plus-cap}
 use Rattle.terms.proofs.Laws.{summed-none, summed-more, summed-all}
 use Rattle.hour_costs.proofs.weighted_hours.Goals as goal

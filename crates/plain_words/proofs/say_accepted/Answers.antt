@@ -5,6 +5,6 @@ use Rattle.plain_words.proofs.say_accepted.Goals as goal
 pub returns : goal.returns
 unfolding accepted_words
 returns c =
-    said-joined c.say_with-costed.ensures
-    (said-joined c.say_with-bound.ensures
+    said-joined _ _ _ _ c.say_with.ensures
+    (said-joined _ _ _ _ c.say_with-2.ensures
     c.say.ensures)

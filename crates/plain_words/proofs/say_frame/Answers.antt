@@ -4,4 +4,4 @@ use Rattle.plain_words.proofs.say_frame.Goals as goal
 
 pub returns : goal.returns
 unfolding frame_words
-returns c = said-joined c.say_with-numbered.ensures c.say.ensures
+returns c = said-joined _ _ _ _ c.say_with.ensures c.say.ensures

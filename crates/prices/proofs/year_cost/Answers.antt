@@ -1,20 +1,18 @@
-use Rattle.hour_costs.specs.Costs.{of_cap, of_firmshort, of_total, year_cost}
-use Rattle.hour_costs.proofs.Laws.{joined}
+use mathlib.Core.Path.{ap, ◌∙◌}
+use lib.ListN.{get_or}
+use Rattle.capped.specs.Cap.{cap}
+use Rattle.capped.proofs.Laws.{both-cap}
+use Rattle.tables.specs.Lists.{data_of, entry_of}
+use Rattle.hour_costs.specs.Costs.{yearly_cost}
+use Rattle.prices.proofs.Laws.{yearly, yearly-at, year-sum}
 use borrow.Author.Rules.{rules}
 use Rattle.prices.proofs.year_cost.Goals as goal
 
-pub yearly_cost-fixed-requires : goal.yearly_cost-fixed-requires
-yearly_cost-fixed-requires c = search (rules, of_cap)
-
-pub yearly_cost-requires : goal.yearly_cost-requires
-yearly_cost-requires c = search (rules, of_firmshort)
-
-pub yearly_cost-requires-2 : goal.yearly_cost-requires-2
-yearly_cost-requires-2 c = search (rules, of_total)
+pub total-fixed-requires : goal.total-fixed-requires
+total-fixed-requires c = λ i l. search (rules, yearly-at)
 
 pub returns : goal.returns
-unfolding year_cost
 returns c =
-    joined _ _ c.join.ensures
-    (joined _ _ c.join-with_firmshort.ensures (joined _ _ c.join-with_hours.ensures c.yearly_cost-fixed.ensures c.hours_cost.ensures) c.yearly_cost.ensures)
-    c.yearly_cost-2.ensures
+    let case = c.args.case.now in
+    let fixed-is = c.total-fixed.ensures (λ k. yearly_cost (data_of case.tables) case.plan.counts (entry_of case.plan) (get_or yearly k 0) c.args.y) (λ i r l e. search rules) in
+    c.join.ensures ∙ rw (fixed-is, c.hours_cost.ensures) (both-cap _ _ ∙ ap cap (year-sum _ _ _ _))

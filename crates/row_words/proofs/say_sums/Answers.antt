@@ -5,7 +5,7 @@ use Rattle.row_words.proofs.say_sums.Goals as goal
 pub returns : goal.returns
 unfolding sums_words
 returns c =
-    said-joined c.say-first.ensures
-    (said-joined c.say_amount-positive.ensures
-    (said-joined c.say-second.ensures
-    c.say_amount.ensures))
+    said-joined _ _ _ _ c.say.ensures
+    (said-joined _ _ _ _ c.say_amount.ensures
+    (said-joined _ _ _ _ c.say-2.ensures
+    c.say_amount-2.ensures))

@@ -5,6 +5,6 @@ use Rattle.sentences.proofs.say_lengths.Goals as goal
 pub returns : goal.returns
 unfolding length_words
 returns c =
-    said-joined c.say-named.ensures
-    (said-joined c.say_with-counted.ensures
-    c.say_with.ensures)
+    said-joined _ _ _ _ c.say.ensures
+    (said-joined _ _ _ _ c.say_with.ensures
+    c.say_with-2.ensures)

@@ -5,6 +5,6 @@ use Rattle.sentences.proofs.say_range.Goals as goal
 pub returns : goal.returns
 unfolding range_words
 returns c =
-    said-joined c.say_with-is.ensures
-    (said-joined c.say_with-from.ensures
-    c.say_with.ensures)
+    said-joined _ _ _ _ c.say_with.ensures
+    (said-joined _ _ _ _ c.say_with-2.ensures
+    c.say_with-3.ensures)

@@ -1,35 +1,38 @@
-use Prim.Native.Nat.{◌-◌}
+use mathlib.Core.Path.{sym, ◌∙◌}
 use borrow.Author.Rules.{rules}
-use Rattle.texts.specs.Buffers.{line_in, text_in}
-use Rattle.texts.proofs.BufferLaws.{room-kept}
-use Rattle.text_reader.proofs.Laws.{reached-start, reached-end, reached-unended, reached-frame, reached-next}
+use Rattle.texts.specs.Format.{text_of}
+use Rattle.text_reader.proofs.Laws.{line-cut, unended-cut, ended, left-unended, no_line, next_line, passed, failed, text-frame}
 use Rattle.text_reader.proofs.read_text.Goals as goal
 
-pub loop-at-init : goal.loop-at-init
-loop-at-init c = reached-start _ _ _ _ _ c.requires
+pub loop-before-init : goal.loop-before-init
+unfolding text_of
+loop-before-init c =
+    let e = c.enumerate-before-items.ensures in
+    rw (c.into_iter-before-iterator.ensures.into_iter_gives, e.count, e.source, c.split_inclusive.ensures.rest, c.new-numbers.ensures)
 
-pub returns-then-end-text : goal.returns-then-end-text
-unfolding text_in
-returns-then-end-text c =
-    let l = c.loop-at in
-    (reached-unended _ _ _ _ _ _ _ _ l.invariant _ c.line_end-end.ensures.0 c.loop-at-test.true c.if-end-text.true, tt)
+pub returns-in_err-line : goal.returns-in_err-line
+returns-in_err-line c =
+    let s = c.in-Some.ensures.steps in
+    let f = failed c.without_feed.result _ _ (sym c.in_err-line.was ∙ c.ok_or.ensures.value) in
+    let none = rw f.0 at c.without_feed.ensures.unended in
+    let left = unended-cut _ _ _ s.0 (λ h a r k e. search rules) none in
+    text-frame _ _ c.from_residual.ensures ∙ rw (f.1, s.1) (left-unended _ _ _ _ c.loop-before.invariant left)
 
-pub returns-in_default : goal.returns-in_default
-unfolding text_in line_in
-returns-in_default c =
-    let none = rw c.in_default.is at c.read_line.ensures.0 in
-    (reached-frame _ _ _ _ _ _ _ _ c.loop-at.invariant _ c.line_end-end.ensures.0 c.loop-at-test.true (search rules) none, tt)
+pub loop-before-preserved : goal.loop-before-preserved
+loop-before-preserved c =
+    let s = c.in-Some.ensures.steps in
+    let p = passed c.without_feed.result _ (sym c.in_ok-line.was ∙ c.ok_or.ensures.value) in
+    let q = passed c.read_line.result _ (sym c.in_ok-ok_or.was ∙ c.ok_or-in-loop-before.ensures.value) in
+    let cut = line-cut _ _ _ s.0 (λ h a r k e. search rules) _ (rw p at c.without_feed.ensures.ended) in
+    rw s.2 (next_line _ _ _ _ c.loop-before.invariant _ _ _ cut (rw q at c.read_line.ensures))
 
-pub loop-at-preserved : goal.loop-at-preserved
-unfolding line_in
-loop-at-preserved c =
-    let l = c.loop-at in
-    let r = c.read_line in
-    let n = c.in-Read.is in
-    let k = r.auto in
-    let room = room-kept l.invariant.room k.data k.plan k.scal k.dual in
-    reached-next _ _ _ _ _ _ _ _ l.invariant _ c.line_end-end.ensures.0 c.loop-at-test.true (search rules) _ _ _ _ _ (rw n at r.ensures.1) room (rw n at r.ensures.0)
+pub returns-in_err-ok_or : goal.returns-in_err-ok_or
+returns-in_err-ok_or c =
+    let s = c.in-Some.ensures.steps in
+    let p = passed c.without_feed.result _ (sym c.in_ok-line.was ∙ c.ok_or.ensures.value) in
+    let f = failed c.read_line.result _ _ (sym c.in_err-ok_or.was ∙ c.ok_or-in-loop-before.ensures.value) in
+    let cut = line-cut _ _ _ s.0 (λ h a r k e. search rules) _ (rw p at c.without_feed.ensures.ended) in
+    text-frame _ _ c.from_residual-in_err-ok_or.ensures ∙ rw (f.1, s.1) (no_line _ _ _ _ c.loop-before.invariant _ _ cut (rw f.0 at c.read_line.ensures))
 
 pub returns : goal.returns
-unfolding text_in
-returns c = (reached-end _ _ _ _ _ _ _ _ c.loop-at.invariant c.loop-at-test.false, c.loop-at.invariant.within)
+returns c = ended _ _ _ _ c.loop-before.invariant c.in-None.ensures.steps.0.0

@@ -1,10 +1,11 @@
-use Prim.Native.Nat.{◌-◌}
-use lib.ListN.{length}
-use Rattle.text_reader.proofs.Laws.{Reached}
+use mathlib.Core.Path.{◌≡◌}
+use Prim.Native.Nat.{◌+◌}
+use Rattle.std.specs.Slice.Iter.{split_inclusive_rest}
+use Rattle.texts.specs.Format.{lines, read_lines, text_of}
+use Rattle.texts.specs.Numbers.{lists_in}
 use Rattle.text_reader.proofs.read_text.Given as goal
 
-abbrev pub invariant-loop-at : goal.invariant-loop-at
-invariant-loop-at l = Reached l.text l.at l.number l.used l.«data» l.plan l.scal l.dual
-
-abbrev pub decreases-loop-at : goal.decreases-loop-at
-decreases-loop-at l = length l.text - l.at
+-- the lines that are left, read on behind the numbers that came before, say what the text says
+abbrev pub invariant-loop-before : goal.invariant-loop-before
+invariant-loop-before l =
+    read_lines (lines (split_inclusive_rest l.before-iterator.iter)) (l.before-iterator.count + 1) (lists_in l.numbers) ≡ text_of l.text

@@ -1,21 +1,12 @@
 use native.Mathlib.Omega.{arith}
 use Rattle.model.specs.Standing.{trans_in⁺, trans_in⁻}
-use Rattle.column_terms.proofs.Laws.{row_at, none-priced, take-priced, add-priced-if, take-priced-if, priced-as}
+use Rattle.column_terms.proofs.Laws.{none-priced, take-priced, add-priced-if, take-priced-if, priced-as}
 use Rattle.zone_columns.proofs.trans_column.Goals as goal
-
-pub take_row_if-requires : goal.take_row_if-requires
-take_row_if-requires c =
-    let p = c.requires in
-    λ _. row_at c.args.pricing.now.tables_at.counted c.args.pricing.now.rows_at (omega arith) c.requires.0 c.requires.1.1.0 (omega arith) c.requires.1.1.1
 
 pub returns : goal.returns
 unfolding trans_in⁺ trans_in⁻
 returns c =
-    let t0 = none-priced c.none.ensures in
-    let t1 = add-priced-if t0 _ c.add_row_if-p.ensures in
-    let t2 = take-priced-if t1 _ c.take_row_if-q.ensures in
-    let t3 = take-priced t2 c.take_row-r.ensures in
-    let t4 = take-priced-if t3 _ c.take_row_if.ensures in
-    priced-as t4 _ _
+    let t2 = take-priced-if (add-priced-if (none-priced c.none.ensures) _ c.add_row_if.ensures) _ c.take_row_if.ensures in
+    priced-as (take-priced-if (take-priced t2 c.take_row.ensures) _ c.take_row_if-2.ensures) _ _
     (λ m. rw c.delivered-kept.ensures (omega arith))
     (λ m. omega arith)

@@ -7,7 +7,7 @@ use Rattle.column_terms.proofs.Sound.{ramp-slice, next-ramp}
 use Rattle.column_terms.proofs.ramps.in_ramps.Goals as goal
 
 pub overflow_add-next : goal.overflow_add-next
-overflow_add-next c = let p = c.requires.0 in record { fits = omega (arith, few-slices p.own.counted, ramp-slice p) }
+overflow_add-next c = let p = c.requires.0 in record { fits = omega (arith, few-slices c.args.multipliers.now.counted, ramp-slice p) }
 
 pub in_ramp-later-requires : goal.in_ramp-later-requires
 in_ramp-later-requires c =

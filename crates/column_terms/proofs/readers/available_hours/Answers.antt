@@ -5,9 +5,5 @@ use Rattle.column_terms.proofs.readers.available_hours.Goals as goal
 
 pub overflow_mul-result : goal.overflow_mul-result
 overflow_mul-result c =
-    let p = c.requires in
-    let h : c.by_plant_season.result ≤ 1000 = rw c.by_plant_season.ensures.0 (few-availability c.args.tested.now.tables.now.laid_out c.args.tested.now.tested c.requires.0 c.requires.1) in
+    let h : c.by_plant_season.result ≤ 1000 = rw c.by_plant_season.ensures.0 (few-availability c.args.tested.now c.requires.0 c.requires.1) in
     small 1000 412316860320 tt h c.season_hours.ensures.1
-
-pub returns : goal.returns
-returns c = rw (c.args.tested.now.tables.now.laid_out.counts, c.by_plant_season.ensures.0, c.season_hours.ensures.0)

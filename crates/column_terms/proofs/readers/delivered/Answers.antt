@@ -3,4 +3,4 @@ use Rattle.column_terms.proofs.Sound.{few-loss}
 use Rattle.column_terms.proofs.readers.delivered.Goals as goal
 
 pub overflow_sub-result : goal.overflow_sub-result
-overflow_sub-result c = let p = c.requires in omega (arith, c.by_link.ensures.0, few-loss c.args.tested.now.tables.now.laid_out c.args.tested.now.tested c.requires.0 c.requires.1.0 c.requires.1.1)
+overflow_sub-result c = omega (arith, few-loss c.args.tested.now c.requires.0 c.requires.1.0 c.requires.1.1)

@@ -5,9 +5,5 @@ use Rattle.column_terms.proofs.readers.weighted_annuity.Goals as goal
 
 pub overflow_mul-result : goal.overflow_mul-result
 overflow_mul-result c =
-    let p = c.requires in
-    let h : c.year_weight.result ≤ 20000 = rw c.year_weight.ensures (few-weights c.args.tested.now.tables.now.laid_out c.args.tested.now.tested c.requires.0) in
+    let h : c.year_weight.result ≤ 20000 = rw c.year_weight.ensures (few-weights c.args.tested.now c.requires.0) in
     small 20000 0xffff_ffff tt h c.by_year_plant.ensures.1
-
-pub returns : goal.returns
-returns c = rw (c.year_weight.ensures, c.by_year_plant.ensures.0)
