@@ -1,7 +1,7 @@
-// A sum of capped terms, whatever the term.
-ghost use Rattle.std.specs.Prelude.{◌≡◌, ℕ, ◌<◌};
+// Sums of capped terms, whatever the term, and a term under a test.
+ghost use Rattle.std.specs.Prelude.{◌≡◌, ℕ, ◌*◌, ◌<◌};
 ghost use Rattle.capped.specs.Cap.{cap, Sum};
-ghost use Rattle.sums.specs.Sum.{sum};
+ghost use Rattle.sums.specs.Sum.{sum, on};
 
 use capped::Sum;
 
@@ -15,4 +15,14 @@ pub fn total<F: Fn(usize) -> Sum>(n: usize, term: F) -> Sum
         total = capped::join(total, term(i));
     }
     total
+}
+
+// A product where a test holds, else 0.
+pub fn product_if(test: bool, a: u64, b: u64) -> Sum
+    ensures { result ≡ cap (on test (a * b)) }
+{
+    if test {
+        return capped::product(a, b);
+    }
+    capped::zero()
 }
