@@ -13,20 +13,18 @@ ghost use Rattle.tables.specs.Lists.{data_of, entry_of};
 use capped::Sum;
 use tables::lists::{Case, Plan};
 use tables::names::{LOSS, MW_PER_LINE, TOTAL_LINES, TRANS};
+use terms::totals::{product_if, total};
 
 // Σ (1000 − Loss[u,z])·trans[u,z] over the other zones u: what zone z receives.
 pub fn received(case: &Case, y: usize, z: usize, s: usize) -> Sum
     requires { (y < case.now.plan.counts.years) × ((z < case.now.plan.counts.zones) × (s < slices_of case.now.plan.counts)) }
     ensures { result ≡ cap (sum case.now.plan.counts.zones (λ u. on (not (eqb u z)) ((1000 - loss (data_of case.now.tables) y u z) * entry_of case.now.plan (trans y u z s)))) }
 {
-    let mut total = capped::zero();
-    for u in 0..case.plan.counts.zones {
+    total(case.plan.counts.zones, |u| {
         // thousandths that the link delivers
         let kept = 1000u64.saturating_sub(case.tables.by_link(LOSS, y, u, z));
-        let flow = case.plan.by_link_slice(TRANS, y, u, z, s);
-        total = capped::add_product_if(u != z, total, kept, flow);
-    }
-    total
+        product_if(u != z, kept, case.plan.by_link_slice(TRANS, y, u, z, s))
+    })
 }
 
 // A link's direction, seen from the zone whose links are summed.
@@ -41,12 +39,9 @@ pub fn flows(plan: &Plan, direction: Direction, y: usize, z: usize, s: usize) ->
     requires { (y < plan.now.counts.years) × ((z < plan.now.counts.zones) × (s < slices_of plan.now.counts)) }
     ensures { result ≡ cap (sum plan.now.counts.zones (λ u. on (not (eqb u z)) (1000 * entry_of plan.now (link direction y z u s)))) }
 {
-    let mut total = capped::zero();
-    for u in 0..plan.counts.zones {
-        let flow = flow_between(plan, direction, y, z, u, s);
-        total = capped::add_product_if(u != z, total, 1000, flow);
-    }
-    total
+    total(plan.counts.zones, |u| {
+        product_if(u != z, 1000, flow_between(plan, direction, y, z, u, s))
+    })
 }
 
 // trans[u,z] inward, trans[z,u] outward.
@@ -65,11 +60,12 @@ pub fn lines_into(case: &Case, y: usize, z: usize) -> Sum
     requires { (y < case.now.plan.counts.years) × (z < case.now.plan.counts.zones) }
     ensures { result ≡ cap (sum case.now.plan.counts.zones (λ u. on (not (eqb u z)) (1000 * mw_per_line (data_of case.now.tables) u z * entry_of case.now.plan (total_lines y u z)))) }
 {
-    let mut total = capped::zero();
-    for u in 0..case.plan.counts.zones {
+    total(case.plan.counts.zones, |u| {
         let power = case.tables.by_pair(MW_PER_LINE, u, z);
-        let lines = case.plan.by_link(TOTAL_LINES, y, u, z);
-        total = capped::add_product_if(u != z, total, 1000 * power, lines);
-    }
-    total
+        product_if(
+            u != z,
+            1000 * power,
+            case.plan.by_link(TOTAL_LINES, y, u, z),
+        )
+    })
 }

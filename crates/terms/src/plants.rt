@@ -7,12 +7,13 @@ ghost use Rattle.model.specs.Data.{zone, cap_credit, duration, rate, weight, ann
 ghost use Rattle.model.specs.Columns.{cap as cap_column};
 ghost use Rattle.tables.specs.Lists.{data_of, entry_of};
 
+use crate::totals::{exact_total, product_if, total};
 use capped::Sum;
-use parts::slices::both;
 use parts::years::part_at;
 use tables::lists::{Case, Tables};
 use tables::names::{ANNUITY, CAP, CAP_CREDIT, DURATION, KIND, RATE, VRE, WEIGHT, ZONE};
 
+// A loop here and in `vre_sum`, and no `total`: a sum of terms takes half as long again, and the rows of each slice wait for these two.
 // 1000·Σ of a year's part over the plants of zone z, in slice s.
 pub fn zone_sum(tables: &Tables, part: &[u32], z: u64, s: usize) -> Sum
     requires { (length part.now ≡ tables.now.counts.plants * slices_of tables.now.counts) × (s < slices_of tables.now.counts) }
@@ -33,7 +34,7 @@ pub fn vre_sum(tables: &Tables, part: &[u32], z: u64, err: u64, s: usize) -> Sum
 {
     let mut total = capped::zero();
     for g in 0..tables.counts.plants {
-        let here = both(tables.by_plant(ZONE, g) == z, tables.by_plant(VRE, g) == 1);
+        let here = (tables.by_plant(ZONE, g) == z) & (tables.by_plant(VRE, g) == 1);
         total = capped::add_product_if(here, total, err, part_at(part, tables.counts, g, s));
     }
     total
@@ -44,34 +45,42 @@ pub fn credit_sum(case: &Case, y: usize, z: u64) -> Sum
     requires { y < case.now.plan.counts.years }
     ensures { result ≡ cap (sum case.now.plan.counts.plants (λ g. on (eqb (zone (data_of case.now.tables) g) z) (cap_credit (data_of case.now.tables) g * entry_of case.now.plan (cap_column y g)))) }
 {
-    let mut total = capped::zero();
-    for g in 0..case.plan.counts.plants {
+    total(case.plan.counts.plants, |g| {
         let here = case.tables.by_plant(ZONE, g) == z;
         let credit = case.tables.by_plant(CAP_CREDIT, g);
-        total = capped::add_product_if(here, total, credit, case.plan.by_year_plant(CAP, y, g));
-    }
-    total
+        product_if(here, credit, case.plan.by_year_plant(CAP, y, g))
+    })
 }
 
-// Σ R·V·Annuity·cap over the candidates, in year y.
+// share·Annuity·cap of a candidate in year y, else 0.
+fn annuity_of(case: &Case, share: u64, y: usize, g: usize) -> Sum
+    requires { (y < case.now.plan.counts.years) × (g < case.now.plan.counts.plants) }
+    ensures { result ≡ cap (on (candidate (data_of case.now.tables) g) (share * annuity (data_of case.now.tables) y g * entry_of case.now.plan (cap_column y g))) }
+{
+    if case.tables.is_existing(g) {
+        return capped::zero();
+    }
+    let annuity = case.tables.by_year_plant(ANNUITY, y, g);
+    capped::scale(
+        capped::product(share, annuity),
+        case.plan.by_year_plant(CAP, y, g),
+    )
+}
+
+// Σ R·V·Annuity·cap over years and candidates.
+pub fn capital_sum(case: &Case) -> Sum
+    ensures { result ≡ cap (sum case.now.plan.counts.years (λ y. sum case.now.plan.counts.plants (λ g. on (candidate (data_of case.now.tables) g) (rate (data_of case.now.tables) y * weight (data_of case.now.tables) y * annuity (data_of case.now.tables) y g * entry_of case.now.plan (cap_column y g))))) }
+{
+    total(case.plan.counts.years, |y| annuity_sum(case, y))
+}
+
+// The same over the candidates, in year y.
 pub fn annuity_sum(case: &Case, y: usize) -> Sum
     requires { y < case.now.plan.counts.years }
     ensures { result ≡ cap (sum case.now.plan.counts.plants (λ g. on (candidate (data_of case.now.tables) g) (rate (data_of case.now.tables) y * weight (data_of case.now.tables) y * annuity (data_of case.now.tables) y g * entry_of case.now.plan (cap_column y g)))) }
 {
     let share = year_weight(&case.tables, y);
-    let mut total = capped::zero();
-    for g in 0..case.plan.counts.plants {
-        let candidate = case.tables.by_plant(KIND, g) != 0;
-        let annuity = case.tables.by_year_plant(ANNUITY, y, g);
-        total = capped::add_product3_if(
-            candidate,
-            total,
-            share,
-            annuity,
-            case.plan.by_year_plant(CAP, y, g),
-        );
-    }
-    total
+    total(case.plan.counts.plants, |g| annuity_of(case, share, y, g))
 }
 
 // W = R·V
@@ -82,17 +91,6 @@ pub fn year_weight(tables: &Tables, y: usize) -> u64
     tables.by_year(RATE, y) * tables.by_year(WEIGHT, y)
 }
 
-// Σ R·V·Annuity·cap over years and candidates.
-pub fn capital_sum(case: &Case) -> Sum
-    ensures { result ≡ cap (sum case.now.plan.counts.years (λ y. sum case.now.plan.counts.plants (λ g. on (candidate (data_of case.now.tables) g) (rate (data_of case.now.tables) y * weight (data_of case.now.tables) y * annuity (data_of case.now.tables) y g * entry_of case.now.plan (cap_column y g))))) }
-{
-    let mut total = capped::zero();
-    for y in 0..case.plan.counts.years {
-        total = capped::join(total, annuity_sum(case, y));
-    }
-    total
-}
-
 // Σ Dur over the slices of season q.
 pub fn season_hours(tables: &Tables, q: usize) -> u64
     requires { q < tables.now.counts.seasons }
@@ -100,9 +98,5 @@ pub fn season_hours(tables: &Tables, q: usize) -> u64
 {
     let p = tables.counts.days * tables.counts.hours;
     let from = q * p;
-    let mut total = 0;
-    for i in 0..p {
-        total = total + tables.by_slice(DURATION, from + i);
-    }
-    total
+    exact_total(p, |i| tables.by_slice(DURATION, from + i))
 }

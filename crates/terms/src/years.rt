@@ -7,6 +7,7 @@ ghost use Rattle.model.specs.Columns.{column_sets};
 ghost use Rattle.tables.specs.Layout.{EntryAt};
 ghost use Rattle.tables.specs.Lists.{entry_of};
 
+use crate::totals::total;
 use capped::Sum;
 use tables::lists::Plan;
 
@@ -26,9 +27,8 @@ pub fn over_years(plan: &Plan, t: usize, k: usize, i: usize, j: usize) -> Sum
     requires { EntryAt column_sets plan.now.counts t k (plan.now.counts.years - 1) i j 0 }
     ensures { result ≡ cap (sum plan.now.counts.years (λ y. 1 * entry_of plan.now (index t y i j 0))) }
 {
-    let mut total = capped::zero();
-    for y in 0..plan.counts.years {
-        total = capped::add_product(total, 1, plan.entry_in(t, k, y, i, j, 0));
-    }
-    total
+    total(
+        plan.counts.years,
+        |y| capped::product(1, plan.entry_in(t, k, y, i, j, 0)),
+    )
 }

@@ -1,5 +1,4 @@
 use mathlib.Core.Path.{◌∙◌}
-use Prim.Native.Nat.{◌-◌}
 use Rattle.terms.proofs.Laws.{plus-on, summed-none, summed-more, summed-all}
 use Rattle.terms.proofs.plants.zone_sum.Goals as goal
 
