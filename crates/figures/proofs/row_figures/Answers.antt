@@ -1,34 +1,30 @@
+use mathlib.Core.Path.{sym, ap, ◌∙◌}
 use Rattle.sums.specs.Index.{index_of}
 use Rattle.model.specs.Families.{row_boxes}
-use Rattle.data_tests.proofs.Passed.{passed-long, sound-head, sound-entries, sound-tables, counts-sound, counts-read, plan-columns}
+use Rattle.data_tests.proofs.Passed.{sound-head, sound-entries}
+use Rattle.tables.specs.declared.lists.Case.{Case}
+use Rattle.tables.proofs.Members.{row_inside, year-inside}
 use Rattle.figures.proofs.Laws.{counted-alike, row_told}
-use borrow.Author.Rules.{rules}
 use Rattle.figures.proofs.row_figures.Goals as goal
 
-pub counts_of-c-requires : goal.counts_of-c-requires
-counts_of-c-requires c = passed-long _ (sound-head _ c.requires.0)
+pub lay_out-tables-requires : goal.lay_out-tables-requires
+lay_out-tables-requires c = sound-head _ c.requires.0
 
-pub table_starts-tables_at-requires : goal.table_starts-tables_at-requires
-table_starts-tables_at-requires c = counts-sound _ c.requires.0 c.counts_of-c.ensures
+pub year_of-year-requires : goal.year_of-year-requires
+year_of-year-requires c =
+    let counts = rw c.lay_out-tables.ensures at c.lay_out-tables.result.laid_out.counts in
+    let own = counted-alike row_boxes (index_of c.args.p) (counts ∙ sym c.lay_out_plan-plan.ensures.1) c.requires.1.1 in
+    (rw c.lay_out-tables.ensures (sound-entries _ c.requires.0), (c.fill_energies.ensures, year-inside c.lay_out_plan-plan.result.counted (row_inside c.lay_out_plan-plan.result.counts own).1))
 
-pub column_starts-columns_at-requires : goal.column_starts-columns_at-requires
-column_starts-columns_at-requires c = counts-sound _ c.requires.0 c.counts_of-c.ensures
-
-pub fill_energies-requires : goal.fill_energies-requires
-fill_energies-requires c =
-    let l = c.args.«data».now in
-    let counts = c.counts_of-c.ensures in
-    (sound-tables l c.requires.0 _ counts c.table_starts-tables_at.ensures.1, (plan-columns l counts c.requires.1.0 c.column_starts-columns_at.ensures.1, search rules))
-
-pub sides_at-requires : goal.sides_at-requires
-sides_at-requires c =
-    let l = c.args.«data».now in
-    let counts = c.counts_of-c.ensures in
-    let tables_at = sound-tables l c.requires.0 _ counts c.table_starts-tables_at.ensures.1 in
-    let columns_at = plan-columns l counts c.requires.1.0 c.column_starts-columns_at.ensures.1 in
-    ((tables_at, (sound-entries l c.requires.0, (columns_at, c.fill_energies.ensures))), counted-alike row_boxes (index_of c.args.p) (counts-read l counts) c.requires.1.1)
+pub row_sides-requires : goal.row_sides-requires
+row_sides-requires c =
+    let counts = rw c.lay_out-tables.ensures at c.lay_out-tables.result.laid_out.counts in
+    let same = ap (λ (k : Case). k.plan.counts) c.year_of-year.ensures.0 in
+    let own = counted-alike row_boxes (index_of c.args.p) (counts ∙ sym c.lay_out_plan-plan.ensures.1 ∙ sym same) c.requires.1.1 in
+    (sym c.year_of-year.ensures.1, row_inside _ own)
 
 pub returns : goal.returns
 returns c =
-    let a = c.args in
-    row_told a.«data».now a.plan.now a.scale (index_of a.p) c.counts_of-c.ensures c.sides_at.ensures c.told_sides.ensures
+    let counts = rw c.lay_out-tables.ensures at c.lay_out-tables.result.laid_out.counts in
+    row_told c.args.«data».now c.args.plan.now c.args.scale (index_of c.args.p) (counts ∙ sym c.lay_out_plan-plan.ensures.1)
+    (rw (c.year_of-year.ensures.0, c.from.ensures, c.lay_out-tables.ensures, c.lay_out_plan-plan.ensures.0) at c.row_sides.ensures)
