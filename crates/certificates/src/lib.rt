@@ -8,38 +8,30 @@ ghost use Rattle.model.specs.Data.{read};
 ghost use Rattle.model.specs.Tests.{data_fault, dual_fault, gap};
 ghost use Rattle.model.specs.Calls.{certificate};
 
-use data_tests::counts_of;
-use duals::{row_starts, test_multipliers};
+use data_tests::lay_out;
+use duals::{Pricing, lay_out_multipliers, test_multipliers};
 use gap::gap_of;
 use model::{Certificate, Refusal};
 use pricing::test_columns;
+use tables::lists::TestedTables;
 use tables::sets::shape_of;
-use tables::starts::table_starts;
 
 // Refusals 9 to 13 beside a cost that check answered, or the certificate.
-pub fn issue(data: &[u32], scale: u32, multipliers: &[i64], cost: u64) -> Result<Certificate, Refusal>
+pub fn issue(
+    data: &[u32],
+    scale: u32,
+    multipliers: &[i64],
+    cost: u64,
+) -> Result<Certificate, Refusal>
     requires { (data_fault «data».now ≡ fine) × (cost ≤ limit) }
     ensures { result ≡ certificate (dual_fault (read «data».now) multipliers.now scale) cost (gap (read «data».now) multipliers.now scale cost) }
 {
-    let shape = shape_of(counts_of(data));
-    match test_multipliers(multipliers, shape) {
-        Err(r) => return Err(r), // 9 or 10
-        Ok(()) => {}
-    }
-    let c = shape.counts;
-    let tables_at = table_starts(c);
-    let rows_at = row_starts(shape);
-    match test_columns(data, multipliers, &tables_at, &rows_at, c) {
-        Err(r) => return Err(r), // 11 or 12
-        Ok(()) => {}
-    }
-    gap_of(
-        data,
-        multipliers,
-        &tables_at,
-        &rows_at,
-        c,
-        scale as u64,
-        cost,
-    )
+    let tables = lay_out(data);
+    test_multipliers(multipliers, shape_of(tables.counts))?; // 9 or 10
+    let pricing = Pricing {
+        tested: TestedTables { tables: &tables },
+        multipliers: lay_out_multipliers(multipliers, tables.counts),
+    };
+    test_columns(&pricing)?; // 11 or 12
+    gap_of(&pricing, u64::from(scale), cost)
 }

@@ -25,7 +25,7 @@ use tables::lists::TestedTables;
 use tables::sets::{
     BY_LINK, BY_LINK_SLICE, BY_PAIR, BY_PLANT, BY_YEAR, BY_YEAR_PLANT, BY_YEAR_PLANT_SEASON,
     BY_YEAR_PLANT_SLICE, BY_YEAR_ZONE, BY_YEAR_ZONE_FUEL, BY_YEAR_ZONE_SLICE, SINGLE, family_at,
-    inside_of,
+    inside_of, shape_of,
 };
 
 // The largest size of a multiplier, 2^40.
@@ -152,6 +152,18 @@ impl Multipliers<'_> {
         let k = p.kind;
         let o = inside_of(self.counts, set_of(k), p.year, p.first, p.second, p.slice);
         multiplier_in(self.list, self.starts[k] + o)
+    }
+}
+
+// A multiplier for every row, with the starts of the families.
+pub fn lay_out_multipliers<'a>(list: &'a [i64], counts: Counts) -> Multipliers<'a>
+    requires { Counted counts × (length list.now ≡ count (row_boxes counts)) }
+    ensures { (result.list.now ≡ list.now) × (result.counts ≡ counts) }
+{
+    Multipliers {
+        list,
+        counts,
+        starts: row_starts(shape_of(counts)),
     }
 }
 

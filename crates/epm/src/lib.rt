@@ -4,41 +4,32 @@
 
 ghost use Rattle.std.specs.Prelude.{◌≡◌};
 ghost use Rattle.sums.specs.Span.{fine};
-ghost use Rattle.model.specs.declared.Answer.TheVariants.{Accepted};
 ghost use Rattle.model.specs.Tests.{data_fault};
 ghost use Rattle.model.specs.Calls.{check as checkSpec, certify as certifySpec, post as postSpec, posted, answer_code, certificate_code};
 ghost use Rattle.model.specs.Rival.{Binds};
-ghost use Rattle.epm.specs.Answers.{rows_and_cost};
 ghost use Rattle.tables.specs.Lists.{data_of, entry_of};
+ghost use Rattle.epm.specs.Answers.{rows_and_cost};
 
-use tables::lists::Case;
 use boards::put_after;
 use certificates::issue;
-use compared::Amount;
-use data_tests::{counts_of, test_data};
+use data_tests::{lay_out, test_data};
 use energy::totals::ENERGY_COUNT;
 use energy_table::fill_energies;
-use model::{COLUMN_KIND_COUNT, Certificate, Refusal};
-use plan_tests::test_plan;
+use model::{Certificate, Refusal};
+use plan_tests::{column_count, lay_out_plan, test_plan};
 use prices::cost_of;
 use row_tests::test_rows;
-use tables::starts::{column_starts, table_starts};
+use tables::lists::Case;
 
 // Refusals 6, 7 and 8, and the cost.
 fn price(case: &Case, scale: u32) -> Result<u64, Refusal>
     requires { data_fault case.now.tables.list.now ≡ fine }
     ensures { result ≡ rows_and_cost (data_of case.now.tables) scale (entry_of case.now.plan) }
 {
-    let mut energy = [capped::keep(capped::zero()); ENERGY_COUNT];
+    let mut energy = [capped::zero(); ENERGY_COUNT];
     fill_energies(case, &mut energy);
-    match test_rows(case, &energy, scale as u64) {
-        Err(r) => return Err(r),
-        Ok(()) => {}
-    }
-    match compared::value(cost_of(case)) {
-        Amount::Exactly(cost) => Ok(cost),
-        Amount::Above => Err(Refusal::CostOffScale),
-    }
+    test_rows(case, &energy, u64::from(scale))?;
+    cost_of(case).ok_or(Refusal::CostOffScale)
 }
 
 // check: data, N, plan; the cost, or the first refusal in the order of documents 01 and 02.
@@ -46,18 +37,11 @@ pub fn check(data: &[u32], scale: u32, plan: &[u32]) -> Result<u64, Refusal>
     ensures { (answer_code result ≡ answer_code (checkSpec «data».now scale plan.now))
         × (result ≡ checkSpec «data».now scale plan.now) }
 {
-    match test_data(data) {
-        Err(r) => return Err(r),
-        Ok(()) => {}
-    }
-    let c = counts_of(data);
-    let tables_at = table_starts(c);
-    let columns_at = column_starts(c);
-    match test_plan(scale, plan.len(), columns_at[COLUMN_KIND_COUNT]) {
-        Err(r) => return Err(r),
-        Ok(()) => {}
-    }
-    price(data, scale, plan, &tables_at, &columns_at, c)
+    test_data(data)?;
+    let tables = lay_out(data);
+    test_plan(scale, plan.len(), column_count(tables.counts))?;
+    let plan = lay_out_plan(plan, tables.counts);
+    price(&Case { tables, plan }, scale)
 }
 
 // certify: data, N, plan, one multiplier for each row; cost and gap, or the first refusal in the order of documents 01 and 02.
@@ -66,11 +50,8 @@ pub fn certify(data: &[u32], scale: u32, plan: &[u32], multipliers: &[i64]) -> R
     ensures { (certificate_code result ≡ certificate_code (certifySpec «data».now scale plan.now multipliers.now))
         × ((result ≡ certifySpec «data».now scale plan.now multipliers.now) × Binds «data».now scale result) }
 {
-    let checked = check(data, scale, plan);
-    match checked {
-        Err(r) => Err(r),
-        Ok(cost) => issue(data, scale, multipliers, cost),
-    }
+    let cost = check(data, scale, plan)?;
+    issue(data, scale, multipliers, cost)
 }
 
 // post: after the tests of check the year's part of the gen table replaces the board's places from `start` on; on a refusal the board keeps all it held.

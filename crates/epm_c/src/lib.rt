@@ -7,7 +7,6 @@ ghost use Rattle.epm_c.specs.Exports.{status, written, board_of, BindsOut};
 
 use codes::{answer_code, certificate_code};
 use exports::put;
-use model::{Answer, Certificate};
 
 // What a call returns where `out` has no room for two figures; no refusal has this number.
 const NO_ROOM: u32 = 255;

@@ -1,16 +1,22 @@
 -- Division with remainder gives the numbering back: of a kind by the starts, of its indices by the sizes of its index set.
 use mathlib.Core.Path.{◌≡◌, refl, sym, ap, ◌∙◌}
-use mathlib.Core.Bool.{false}
+use mathlib.Core.Bool.{true, false}
 use mathlib.Core.Logic.{⊎_elim}
-use mathlib.Core.List.{List}
+use mathlib.Core.List.{List, [], ◌∷◌}
 use Prim.Native.Nat.{ℕ, zero, suc, ◌+◌, ◌*◌, ◌-◌, ◌/◌, ◌%◌, ◌≤◌, ◌<◌}
-use native.Mathlib.Nat.{zero-add, mul-zero, mod-lt, div-lt_iff_lt-mul, div-add-mod', eq-or-lt_of_le}
+use native.Mathlib.Nat.{zero-add, mul-zero, mod-lt, div-lt_iff_lt-mul, div-add-mod'}
 use native.Mathlib.Omega.{arith}
-use lib.ListN.{length, get_or}
+use lib.Dec.{leb}
+use lib.ListN.{length, get_or, take}
+use borrow.Author.Tests.{leb-true, leb-false}
+use Rattle.capped.proofs.Laws.{le-or-lt}
+use Rattle.std.specs.List.Sorted.{IsNonDecreasing, IsPartitionPoint}
+use lib.Seq.{get_or-take, length-take-le}
+use Rattle.std.proofs.lemmas.List.Sorted.{IsNonDecreasingBy-from_default}
 use Rattle.sums.specs.declared.Box.{Box}
 use Rattle.sums.specs.Sum.{sum}
 use Rattle.sums.specs.Index.{box, box_of, volume, inside, start, count, number, Member, index_of}
-use Rattle.sums.proofs.Sums.{sum-one-more}
+use Rattle.sums.proofs.Sums.{sum-one-more, sum-prefix}
 use Rattle.model.specs.declared.Counts.{Counts}
 use Rattle.model.specs.declared.Family.{Family}
 use Rattle.model.specs.declared.Shape.{Shape}
@@ -23,15 +29,28 @@ use Rattle.tables.proofs.Laws.{get_or-map-in, box-at, start-at}
 use Rattle.sums.specs.declared.Place.{Place}
 use Rattle.places.specs.Numbers.{InBox, slice_at, SlicesBack}
 
--- the first start is at most n and the last is above it: there is a kind
-pub some-kind : (starts : List ℕ) (kinds : ℕ) {n : ℕ} → get_or starts 0 0 ≤ n → n < get_or starts kinds 0 → 0 < kinds
-some-kind starts zero h e = absurd (omega arith)
-some-kind starts (suc kinds) h e = omega arith
+-- The kind that holds a number, as the point that parts the starts by it
 
--- where a kind does not reach past n and the last one does, there is a kind after it
-pub more-kinds : (starts : List ℕ) {k kinds n : ℕ} → k < kinds → get_or starts (k + 1) 0 ≤ n → n < get_or starts kinds 0 → k + 1 < kinds
-more-kinds starts {k} {kinds} {n} l h e =
-    ⊎_elim (λ (q : k + 1 ≡ kinds). absurd (omega (arith, ap (λ (v : ℕ). get_or starts v 0) q))) (λ q. q) (eq-or-lt_of_le (omega arith))
+some-start : (starts : List ℕ) {n : ℕ} → n < get_or starts (length starts - 1) 0 → 0 < length starts
+some-start [] h = absurd (omega arith)
+some-start (a ∷ l) h = omega arith
+
+module _ (starts : List ℕ) {n p : ℕ} (h : get_or starts 0 0 ≤ n) (l : n < get_or starts (length starts - 1) 0) (parted : IsPartitionPoint (λ (y : ℕ). leb y n ≡ true) (λ y. leb y n ≡ false) starts p) where
+  pub some-kind : 1 ≤ p
+  some-kind = ⊎_elim (λ (q : p ≤ 0). absurd (omega (arith, h, leb-false (get_or starts 0 0) n (parted.1 0 0 q (some-start starts l))))) (λ (q : 0 < p). omega arith) (le-or-lt p 0)
+
+  not-end : p < length starts
+  not-end =
+      ⊎_elim
+      (λ (q : length starts ≤ p).
+      let last = length starts - 1 in
+      absurd (omega (arith, l, leb-true (get_or starts last 0) n (parted.0 last 0 (omega arith) (omega (arith, some-start starts l))))))
+      (λ (q : p < length starts). q) (le-or-lt (length starts) p)
+
+  pub kind_is : (p - 1 + 1 < length starts) × ((get_or starts (p - 1) 0 ≤ n) × (n < get_or starts (p - 1 + 1) 0))
+  kind_is =
+      let e : p - 1 + 1 ≡ p = omega (arith, some-kind) in
+      rw e (not-end, (leb-true (get_or starts (p - 1) 0) n (parted.0 (p - 1) 0 (omega arith) (omega (arith, some-kind))), leb-false (get_or starts p 0) n (parted.1 p 0 (omega arith) not-end)))
 
 -- with a number below a product, the last factor is not 0 and the quotient is below the first
 pub some-last : (a n : ℕ) {m : ℕ} → m < a * n → 0 < n
@@ -74,14 +93,25 @@ module _ (b : Box) {m : ℕ} (h : m < volume b) where
     number = rw (div-add-mod' (m / b.slices / b.seconds) b.firsts, div-add-mod' (m / b.slices) b.seconds, div-add-mod' m b.slices);
   }
 
--- the numbers at which the kinds of a list of index sets start, counted from a first one
+-- the numbers at which the kinds of a list of index sets start, counted from a first one, and where the last ends
 pub record Starts (boxes : List Box) (from : ℕ) (at : List ℕ) : Type 0 where
+  pub long : length at ≡ length boxes + 1
   pub is : (k : ℕ) → k ≤ length boxes → get_or at k 0 ≡ from + start boxes k
 
 module _ {boxes : List Box} {from : ℕ} {at : List ℕ} (s : Starts boxes from at) where
-  pub starts-around : {n : ℕ} → from ≤ n → n < from + count boxes → (get_or at 0 0 ≤ n) × (n < get_or at (length boxes) 0)
+  rises : IsNonDecreasing at
+  rises =
+      IsNonDecreasingBy-from_default (λ (x : ℕ). x) at 0 (λ i j le lt.
+      omega (arith, s.is i (omega (arith, s.long)), s.is j (omega (arith, s.long)), sum-prefix i j (λ k. volume (box_of boxes k)) le))
+
+  pub starts-around : {n : ℕ} → from ≤ n → n < from + count boxes → IsNonDecreasing at × ((get_or at 0 0 ≤ n) × (n < get_or at (length at - 1) 0))
   unfolding sum
-  starts-around h l = (omega (arith, s.is 0 (omega arith)), omega (arith, s.is (length boxes) (omega arith)))
+  starts-around h l =
+      let e : length at - 1 ≡ length boxes = omega (arith, s.long) in
+      (rises, (omega (arith, s.is 0 (omega arith)), omega (arith, ap (λ (k : ℕ). get_or at k 0) e, s.is (length boxes) (omega arith))))
+
+  pub is-kind : {k : ℕ} → k + 1 < length at → k < length boxes
+  is-kind h = omega (arith, s.long)
 
   module _ {k n : ℕ} {b : Box} (e : b ≡ box_of boxes k) (l : k < length boxes) (h : get_or at k 0 ≤ n) where
     -- a number from the start of kind k on and below the next start is that of a member of kind k
@@ -96,17 +126,21 @@ module _ {boxes : List Box} {from : ℕ} {at : List ℕ} (s : Starts boxes from 
 -- the starts and the index sets of the rows, of the columns and of the tables, in this form
 
 module _ (c : Counts) (at : List ℕ) where
-  pub row-starts-are : {shape : Shape} → shape ≡ shape_of c → ((k : ℕ) → k ≤ family_count → get_or at k 0 ≡ start (row_boxes shape.counts) k) → Starts (row_boxes c) 0 at
+  pub row-starts-are : {shape : Shape} → shape ≡ shape_of c → (length at ≡ family_count + 1) × ((k : ℕ) → k ≤ family_count → get_or at k 0 ≡ start (row_boxes shape.counts) k) → Starts (row_boxes c) 0 at
   unfolding row_boxes shape_of
-  row-starts-are e s = record { is = λ k h. s k h ∙ ap (λ (r : Shape). start (row_boxes r.counts) k) e ∙ sym (zero-add _) }
+  row-starts-are e s = record { long = s.0; is = λ k h. s.1 k h ∙ ap (λ (r : Shape). start (row_boxes r.counts) k) e ∙ sym (zero-add _) }
 
-  pub column-starts-are : ((k : ℕ) → k ≤ column_kind_count → get_or at k 0 ≡ start_from c column_sets 0 k) → Starts (column_boxes c) 0 at
+  -- one length serves the starts of the tables and those of the columns, so the latter are the first of their list
+  pub column-starts-are : (length at ≡ table_count + 1) × ((k : ℕ) → k ≤ column_kind_count → get_or at k 0 ≡ start_from c column_sets 0 k) → Starts (column_boxes c) 0 (take (column_kind_count + 1) at)
   unfolding column_boxes
-  column-starts-are s = record { is = λ k h. s k h ∙ start-at c column_sets 0 k h }
+  column-starts-are s = record {
+    long = length-take-le (column_kind_count + 1) at (omega (arith, s.0));
+    is = λ k h. get_or-take (column_kind_count + 1) at k 0 (omega arith) ∙ s.1 k h ∙ start-at c column_sets 0 k h;
+  }
 
-  pub table-starts-are : ((t : ℕ) → t ≤ table_count → get_or at t 0 ≡ start_from c table_sets 7 t) → Starts (table_boxes c) 7 at
+  pub table-starts-are : (length at ≡ table_count + 1) × ((t : ℕ) → t ≤ table_count → get_or at t 0 ≡ start_from c table_sets 7 t) → Starts (table_boxes c) 7 at
   unfolding table_boxes
-  table-starts-are s = record { is = λ t h. s t h ∙ start-at c table_sets 7 t h }
+  table-starts-are s = record { long = s.0; is = λ t h. s.1 t h ∙ start-at c table_sets 7 t h }
 
 module _ (c : Counts) {b : Box} {k : ℕ} where
   pub row-box : k < family_count → {f : Family} → f ≡ family_of k → b ≡ box_of (sets c) f.set → b ≡ box_of (row_boxes c) k

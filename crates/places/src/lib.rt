@@ -1,7 +1,8 @@
 // From the number of a row, a column or a data entry to its kind and indices: the inverse of document 01's numbering.
 #![tactic(auto)]
 
-ghost use Rattle.std.specs.Prelude.{◌≡◌, ◌+◌, ◌≤◌, ◌<◌, length, get_or};
+ghost use Rattle.std.specs.Prelude.{◌≡◌, ◌+◌, ◌-◌, ◌≤◌, ◌<◌, length, get_or};
+ghost use Rattle.std.specs.List.Sorted.{IsNonDecreasing};
 ghost use Rattle.sums.specs.Index.{volume, count, Member, index_of};
 ghost use Rattle.model.specs.Data.{table_boxes, place_of, data_length};
 ghost use Rattle.model.specs.Columns.{column_boxes};
@@ -10,7 +11,7 @@ ghost use Rattle.tables.specs.Layout.{Counted};
 ghost use Rattle.places.specs.Numbers.{Numbered, InBox, slice_at};
 
 use duals::row_starts;
-use model::{COLUMN_KIND_COUNT, Counts, FAMILY_COUNT, TABLE_COUNT};
+use model::{COLUMN_KIND_COUNT, Counts};
 use sums::{Box, Place};
 use tables::sets::{box_of, family_at, shape_of};
 use tables::starts::{column_box, column_starts, table_box, table_starts};
@@ -23,16 +24,12 @@ pub struct Slice {
     pub hour: usize,
 }
 
-// The kind that holds number `n`, by the numbers at which the kinds start; after the last of the `kinds` starts stands the end.
-fn kind_of(starts: &[usize], kinds: usize, n: usize) -> usize
-    requires { (kinds < length starts.now) × ((get_or starts.now 0 0 ≤ n) × (n < get_or starts.now kinds 0)) }
-    ensures { (result < kinds) × ((get_or starts.now result 0 ≤ n) × (n < get_or starts.now (result + 1) 0)) }
+// The kind that holds number `n`, by the numbers at which the kinds start, in their order; the last of them is the end.
+fn kind_of(starts: &[usize], n: usize) -> usize
+    requires { IsNonDecreasing starts.now × ((get_or starts.now 0 0 ≤ n) × (n < get_or starts.now (length starts.now - 1) 0)) }
+    ensures { (result + 1 < length starts.now) × ((get_or starts.now result 0 ≤ n) × (n < get_or starts.now (result + 1) 0)) }
 {
-    let mut k = 0;
-    while starts[k + 1] <= n {
-        k += 1;
-    }
-    k
+    starts.partition_point(|s| *s <= n) - 1
 }
 
 // Member `m` of an index set, by division: the last index runs fastest.
@@ -61,7 +58,7 @@ pub fn row_place(c: Counts, row: usize) -> Place
     ensures { Numbered (row_boxes c) row result }
 {
     let starts = row_starts(shape_of(c));
-    let k = kind_of(&starts, FAMILY_COUNT, row);
+    let k = kind_of(&starts, row);
     let f = family_at(k);
     let b = box_of(c, f.set);
     member_at(b, k, row - starts[k])
@@ -72,8 +69,9 @@ pub fn column_place(c: Counts, column: usize) -> Place
     requires { Counted c × (column < count (column_boxes c)) }
     ensures { Numbered (column_boxes c) column result }
 {
-    let starts = column_starts(c);
-    let k = kind_of(&starts, COLUMN_KIND_COUNT, column);
+    let all = column_starts(c);
+    let starts = &all[..=COLUMN_KIND_COUNT];
+    let k = kind_of(starts, column);
     let b = column_box(c, k);
     member_at(b, k, column - starts[k])
 }
@@ -84,12 +82,13 @@ pub fn entry_place(c: Counts, place: usize) -> Place
     ensures { Member (table_boxes c) (index_of result) × (place_of c (index_of result) ≡ place) }
 {
     let starts = table_starts(c);
-    let t = kind_of(&starts, TABLE_COUNT, place);
+    let t = kind_of(&starts, place);
     let b = table_box(c, t);
     member_at(b, t, place - starts[t])
 }
 
 // The season, the day and the hour of a slice.
+#[tactic(auto, unfolding(crate::specs::Numbers::slice_at))]
 pub fn slice_at(c: Counts, s: usize) -> Slice
     requires { Counted c }
     ensures { result ≡ slice_at c s }
