@@ -17,7 +17,7 @@ use compared::NoBalance;
 use constants::families::has_constant;
 use constants::{Constant, netted};
 use duals::{Multiplier, Pricing};
-use model::{FAMILY_COUNT, Certificate, Counts, Refusal};
+use model::{Certificate, Counts, FAMILY_COUNT, Refusal};
 use row_constants::constant_at;
 use sums::{Box, Place};
 use tables::sets::{box_of, family_at};
