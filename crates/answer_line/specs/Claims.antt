@@ -1,9 +1,10 @@
 -- What is proved of the printed line, as statements; the proofs are in proofs/Claimed.antt.
-use Rattle.std.specs.Prelude.{◌≡◌, List, [], ◌∷◌, ◌++◌, ℕ, ◌+◌, ◌*◌, ◌-◌, ◌≤◌, ◌<◌, length, get_or, drop}
+use Rattle.std.specs.Prelude.{◌≡◌, List, [], ◌∷◌, ◌++◌, ℕ, ◌+◌, ◌*◌, ◌-◌, ◌≤◌, ◌<◌, length, get_or, drop, Result, Err}
 use Rattle.std.proofs.lemmas.List.Edits.{sets}
 use Rattle.model.specs.declared.Certificate.{Certificate}
-use Rattle.model.specs.declared.Certificate.TheVariants.{Issued, Withheld}
+use Rattle.model.specs.declared.Refusal.{Refusal}
 use Rattle.model.specs.declared.Refusal.TheVariants.{Underpriced}
+use Rattle.model.specs.Calls.{issued}
 use Rattle.writer.specs.Decimal.{decimal}
 use Rattle.writer.specs.Writing.{added}
 use Rattle.answer_line.specs.Line.{line_of}
@@ -30,17 +31,17 @@ Decimals = (n : ℕ) → DecimalOf n (decimal n)
 
 -- the line written over the first bytes of a list that has room for it: the line, then what stood after that place
 abbrev pub LineThenRest : Type 0
-LineThenRest = (a : Certificate) (l : List ℕ) → length (line_of a) ≤ length l → sets l 0 (line_of a) ≡ line_of a ++ drop (length (line_of a)) l
+LineThenRest = (a : Result Certificate Refusal) (l : List ℕ) → length (line_of a) ≤ length l → sets l 0 (line_of a) ≡ line_of a ++ drop (length (line_of a)) l
 
 -- what `answer_line` leaves in a line that has room for it: what stood there, then the answer's whole line
 abbrev pub WholeLine : Type 0
-WholeLine = (a : Certificate) (size : ℕ) (l : List ℕ) → length l + length (line_of a) ≤ size → added size l (line_of a) ≡ l ++ line_of a
+WholeLine = (a : Result Certificate Refusal) (size : ℕ) (l : List ℕ) → length l + length (line_of a) ≤ size → added size l (line_of a) ≡ l ++ line_of a
 
 -- `A 40000000000 0`, document 01's first case, and `R 12 3`, byte by byte
 abbrev pub FirstCase : Type 0
 FirstCase =
-    line_of (Issued 40000000000 0)
+    line_of (issued 40000000000 0)
     ≡ 65 ∷ 32 ∷ 52 ∷ 48 ∷ 48 ∷ 48 ∷ 48 ∷ 48 ∷ 48 ∷ 48 ∷ 48 ∷ 48 ∷ 48 ∷ 32 ∷ 48 ∷ 10 ∷ []
 
 abbrev pub FourthCase : Type 0
-FourthCase = line_of (Withheld (Underpriced 3)) ≡ 82 ∷ 32 ∷ 49 ∷ 50 ∷ 32 ∷ 51 ∷ 10 ∷ []
+FourthCase = line_of (Err (Underpriced 3)) ≡ 82 ∷ 32 ∷ 49 ∷ 50 ∷ 32 ∷ 51 ∷ 10 ∷ []

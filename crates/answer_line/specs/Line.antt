@@ -1,7 +1,7 @@
 -- The line that the certify program prints (document 01, "The certify program"), as a list of bytes.
-use Rattle.std.specs.Prelude.{List, [], ◌∷◌, ◌++◌, ℕ}
+use Rattle.std.specs.Prelude.{List, [], ◌∷◌, ◌++◌, ℕ, Result, Ok, Err}
 use Rattle.model.specs.declared.Certificate.{Certificate}
-use Rattle.model.specs.declared.Certificate.TheVariants.{Issued, Withheld}
+use Rattle.model.specs.declared.Refusal.{Refusal}
 use Rattle.model.specs.Calls.{code_of}
 use Rattle.writer.specs.Decimal.{decimal}
 
@@ -22,6 +22,6 @@ unfoldable pub line_with : ℕ → ℕ → ℕ → List ℕ
 line_with letter a b = letter ∷ (space ∷ (decimal a ++ (space ∷ (decimal b ++ (line_feed ∷ [])))))
 
 -- `A cost gap`, or `R number place`
-unfoldable pub line_of : Certificate → List ℕ
-line_of (Issued cost gap) = line_with letter_a cost gap
-line_of (Withheld refusal) = line_with letter_r (code_of refusal).number (code_of refusal).first
+unfoldable pub line_of : Result Certificate Refusal → List ℕ
+line_of (Ok certificate) = line_with letter_a certificate.cost certificate.gap
+line_of (Err refusal) = line_with letter_r (code_of refusal).number (code_of refusal).first

@@ -1,9 +1,8 @@
 -- What is said of an answer of certify, as bytes: one sentence, without its line feed.
-use Rattle.std.specs.Prelude.{List, [], ◌∷◌, ◌++◌, ℕ, ℤ, length}
+use Rattle.std.specs.Prelude.{List, [], ◌∷◌, ◌++◌, ℕ, ℤ, length, Result, Ok, Err}
 use Rattle.model.specs.declared.Refusal.{Refusal}
 use Rattle.model.specs.declared.Refusal.TheVariants.{Shape, DataLength, Entry, Scale, PlanLength, RowOffScale, Broken, CostOffScale, MultiplierCount, Multiplier, ColumnOffScale, Underpriced, GapOffScale, Board, Frame, Storage}
 use Rattle.model.specs.declared.Certificate.{Certificate}
-use Rattle.model.specs.declared.Certificate.TheVariants.{Issued, Withheld}
 use Rattle.model.specs.Data.{read}
 use Rattle.model.specs.Columns.{entries}
 use Rattle.model.specs.Calls.{code_of}
@@ -43,6 +42,6 @@ module _ (l : List ℕ) (N : ℕ) (plan : List ℕ) (ms : List ℤ) where
   unfoldable pub refused_words : Refusal → List ℕ
   refused_words r = name_at refusal_names (code_of r).number ++ (bytes ": " ++ body_words r)
 
-  unfoldable pub sentence : Certificate → List ℕ
-  sentence (Issued cost gap) = accepted_words cost gap
-  sentence (Withheld r) = refused_words r
+  unfoldable pub sentence : Result Certificate Refusal → List ℕ
+  sentence (Ok certificate) = accepted_words certificate.cost certificate.gap
+  sentence (Err r) = refused_words r

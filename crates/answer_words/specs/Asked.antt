@@ -1,7 +1,6 @@
 -- What stands where certify refuses, by refusal.
-use Rattle.std.specs.Prelude.{List, ℕ, ℤ}
+use Rattle.std.specs.Prelude.{List, ℕ, ℤ, Result, Ok, Err}
 use Rattle.model.specs.declared.Certificate.{Certificate}
-use Rattle.model.specs.declared.Certificate.TheVariants.{Issued, Withheld}
 use Rattle.model.specs.declared.Refusal.{Refusal}
 use Rattle.model.specs.declared.Refusal.TheVariants.{Shape, DataLength, Entry, Scale, PlanLength, RowOffScale, Broken, CostOffScale, MultiplierCount, Multiplier, ColumnOffScale, Underpriced, GapOffScale, Board, Frame, Storage}
 use Rattle.sentences.specs.Asked.{OfRow, OfMultiplier, OfColumn, OfEntry, OfPlant, OfCount}
@@ -26,6 +25,6 @@ Asked l plan ms (Frame n) = Unit {0}
 Asked l plan ms (Storage g) = OfPlant l g
 
 -- the same of an answer
-abbrev pub AskedOf : List ℕ → List ℕ → List ℤ → Certificate → Type 0
-AskedOf l plan ms (Issued cost gap) = Unit {0}
-AskedOf l plan ms (Withheld r) = Asked l plan ms r
+abbrev pub AskedOf : List ℕ → List ℕ → List ℤ → Result Certificate Refusal → Type 0
+AskedOf l plan ms (Ok certificate) = Unit {0}
+AskedOf l plan ms (Err r) = Asked l plan ms r

@@ -92,12 +92,12 @@ fn say_refusal(line: &mut Line<ROOM>, inputs: &Inputs, refusal: Refusal)
 
 // The sentence of an answer, without its line feed.
 #[tactic(auto, unfolding(crate::specs::Answers::sentence))]
-pub fn say_sentence(line: &mut Line<ROOM>, inputs: &Inputs, answer: Certificate)
+pub fn say_sentence(line: &mut Line<ROOM>, inputs: &Inputs, answer: Result<Certificate, Refusal>)
     requires { AskedOf inputs.now.«data».now inputs.now.plan.now inputs.now.multipliers.now answer }
     ensures { line.new ≡ added room line.old (sentence inputs.now.«data».now inputs.now.scale inputs.now.plan.now inputs.now.multipliers.now answer) }
 {
     match answer {
-        Certificate::Issued(cost, gap) => say_accepted(line, cost, gap),
-        Certificate::Withheld(refusal) => say_refusal(line, inputs, refusal),
+        Ok(certificate) => say_accepted(line, certificate.cost, certificate.gap),
+        Err(refusal) => say_refusal(line, inputs, refusal),
     }
 }

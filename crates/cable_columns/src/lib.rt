@@ -48,14 +48,14 @@ fn total_in_slices(pricing: &Pricing, y: usize, z: usize, w: usize) -> Pair
     ensures { result ≡ pair_of pricing.now.multipliers.counts pricing.now.multipliers.list.now (∑ (slices_of pricing.now.multipliers.counts) (total_in_slice⁺ (data_of pricing.now.tested.tables.now) y z w)) nothing }
 {
     let power = pricing.tested.tables.by_pair(MW_PER_LINE, z, w);
-    let mut p = Pair::none();
     if power == 0 {
-        return p;
+        return Pair::none();
     }
-    for s in 0..slices_of(pricing.multipliers.counts) {
-        p = p.join(total_in_slice(power, &pricing.multipliers, y, z, w, s));
-    }
-    p
+    let n = slices_of(pricing.multipliers.counts);
+    Pair::total(
+        n,
+        |s| total_in_slice(power, &pricing.multipliers, y, z, w, s),
+    )
 }
 
 // Families 2 and 3 in every slice, 26 (this year's row and the next's), and 28: of the pair's row the lower zone's direction is the left side.

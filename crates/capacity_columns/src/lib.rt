@@ -77,11 +77,8 @@ fn cap_in_slices(pricing: &Pricing, y: usize, g: usize) -> Pair
     ensures { result ≡ pair_of pricing.now.multipliers.counts pricing.now.multipliers.list.now (∑ (slices_of pricing.now.multipliers.counts) (cap_in_slice⁺ (data_of pricing.now.tested.tables.now) y g)) (∑ (slices_of pricing.now.multipliers.counts) (cap_in_slice⁻ (data_of pricing.now.tested.tables.now) y g)) }
 {
     let rates = rates_of(pricing.tested.tables, g);
-    let mut p = Pair::none();
-    for s in 0..slices_of(pricing.multipliers.counts) {
-        p = p.join(cap_in_slice(pricing, rates, y, g, s));
-    }
-    p
+    let n = slices_of(pricing.multipliers.counts);
+    Pair::total(n, |s| cap_in_slice(pricing, rates, y, g, s))
 }
 
 // Family 10.
@@ -97,11 +94,10 @@ fn cap_in_seasons(pricing: &Pricing, y: usize, g: usize) -> Pair
     requires { (y < pricing.now.multipliers.counts.years) × (g < pricing.now.multipliers.counts.plants) }
     ensures { result ≡ pair_of pricing.now.multipliers.counts pricing.now.multipliers.list.now (∑ pricing.now.multipliers.counts.seasons (cap_in_season⁺ (data_of pricing.now.tested.tables.now) y g)) (∑ pricing.now.multipliers.counts.seasons (λ _. nothing)) }
 {
-    let mut p = Pair::none();
-    for q in 0..pricing.multipliers.counts.seasons {
-        p = p.join(cap_in_season(pricing, y, g, q));
-    }
-    p
+    Pair::total(
+        pricing.multipliers.counts.seasons,
+        |q| cap_in_season(pricing, y, g, q),
+    )
 }
 
 // The rows of the year: families 4, 12 (this year's and the next's), 13 and 18.

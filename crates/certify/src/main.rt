@@ -4,40 +4,30 @@
 #![tactic(auto)]
 
 ghost use Rattle.std.specs.Prelude.{◌≡◌, ◌≤◌, length};
-ghost use Rattle.std.proofs.lemmas.List.Edits.{sets};
 ghost use Rattle.certify.specs.Printed.{printed, LineBinds};
 
-use standard_input::{INPUT_BYTES, Received, drop_rest, read_input};
+use answer_line::answer_line;
+use frames::certify_text;
+use writer::Line;
 
-// The printed line's bytes for an input, at the start of `line`, and their number. They are the line of a certificate that binds every rival plan (demand 3).
-fn answer(input: &[u8], line: &mut [u8; 64]) -> usize
-    ensures { (result ≡ length (printed input.now)) × ((result ≤ 44) × ((line.new ≡ sets line.old 0 (printed input.now))
-        × LineBinds input.now)) }
+// The bytes that the printed line has room for: more than it can have.
+const LINE_ROOM: usize = 64;
+
+// The printed line for an input. It is the line of a certificate that binds every rival plan (demand 3).
+fn answer(input: &[u8]) -> Line<LINE_ROOM>
+    ensures whole { result ≡ printed input.now }
+    ensures short { length result ≤ 44 }
+    ensures binds { LineBinds input.now }
 {
-    answer_line::answer_line(frames::certify_text(input), line)
-}
-
-fn print_answer(rt: &HostRuntime, input: &[u8]) {
-    let mut line = [0u8; 64];
-    let count = answer(input, &mut line);
-    if rt.write_all(&line[0..count]).is_err() {
-        let _ = rt.eprint("certify: the answer cannot be written\n");
-    }
+    let mut line = Line::new();
+    answer_line(certify_text(input), &mut line);
+    line
 }
 
 fn main(rt: HostRuntime) {
-    let mut stdin = rt.stdin();
-    let mut input = [0u8; INPUT_BYTES];
-    let received = read_input(&mut stdin, &mut input);
-    match received {
-        Received::Failed => {
-            let _ = rt.eprint("certify: standard input cannot be read\n");
-        }
-        Received::Bytes(count) => {
-            print_answer(&rt, &input[0..count]);
-            if count == INPUT_BYTES {
-                drop_rest(&mut stdin, u64::MAX);
-            }
-        }
-    }
+    programs::run(
+        &rt,
+        "certify",
+        |input: &[u8]| rt.write_all(answer(input).as_bytes()),
+    );
 }

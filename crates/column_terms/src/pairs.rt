@@ -1,8 +1,10 @@
 // The two sums of a column, made term by term: a column reads as the chain of its rows.
-ghost use Rattle.std.specs.Prelude.{◌≡◌, true};
+ghost use Rattle.std.specs.Prelude.{◌≡◌, true, List, ℕ, ◌<◌, ℤ};
 ghost use Rattle.sums.specs.Index.{index};
-ghost use Rattle.column_terms.specs.Pairs.{no_terms, joined, added, taken, added_if, taken_if, row_multiplier};
-ghost use Rattle.column_terms.specs.Pairs.{RowAt};
+ghost use Rattle.sums.specs.Linear.{Linear, ∑};
+ghost use Rattle.model.specs.declared.Counts.{Counts};
+ghost use Rattle.column_terms.specs.declared.Pair.{Pair};
+ghost use Rattle.column_terms.specs.Pairs.{RowAt, no_terms, joined, added, taken, added_if, taken_if, row_multiplier, pair_of};
 
 use crate::Pair;
 use duals::{Multiplier, Multipliers};
@@ -27,6 +29,18 @@ impl Pair {
             up: capped::join(self.up, more.up),
             down: capped::join(self.down, more.down),
         }
+    }
+
+    // The terms of n groups of rows: where those of each group i are the rows with the coefficients a i and −b i, it is the pair of all of them.
+    pub fn total<F: Fn(usize) -> Pair>(n: usize, terms: F) -> Pair
+        requires { (i : ℕ) → i < n → F.pre terms i }
+        ensures { (c : Counts) (ms : List ℤ) (a b : ℕ → Linear) → ((i : ℕ) (r : Pair) → i < n → F.post terms i r → r ≡ pair_of c ms (a i) (b i)) → result ≡ pair_of c ms (∑ n a) (∑ n b) }
+    {
+        let mut p = Pair::none();
+        for i in 0..n {
+            p = p.join(terms(i));
+        }
+        p
     }
 
     // A term with the coefficient a.

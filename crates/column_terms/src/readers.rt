@@ -8,30 +8,23 @@ ghost use Rattle.column_terms.specs.Readers.{PlantTable};
 ghost use Rattle.tables.specs.Lists.{data_of};
 
 use model::Counts;
-use parts::slices::{day_of, first_hour, long, season_of};
+use parts::slices::{day_of, first_hour, season_of};
 use tables::lists::{Tables, TestedTables};
-use tables::names::{ANNUITY, AVAILABILITY, DURATION, FUEL, KIND, LOSS, MIN_LOAD, YEAR, ZONE};
+use tables::names::{ANNUITY, AVAILABILITY, DURATION, FUEL, LOSS, MIN_LOAD, YEAR, ZONE};
 use terms::plants::{season_hours, year_weight};
-
-// A number of the data as an index.
-fn place(n: u64) -> usize
-    ensures { result ≡ n }
-{
-    n as usize
-}
 
 pub fn zone_of(tested: &TestedTables, g: usize) -> usize
     requires { g < tested.now.tables.now.counts.plants }
     ensures { (result ≡ zone (data_of tested.now.tables.now) g) × (result < tested.now.tables.now.counts.zones) }
 {
-    place(tested.tables.by_plant(ZONE, g))
+    tested.tables.by_plant(ZONE, g) as usize
 }
 
 pub fn fuel_of(tested: &TestedTables, g: usize) -> usize
     requires { g < tested.now.tables.now.counts.plants }
     ensures { (result ≡ fuel (data_of tested.now.tables.now) g) × (result < tested.now.tables.now.counts.fuels) }
 {
-    place(tested.tables.by_plant(FUEL, g))
+    tested.tables.by_plant(FUEL, g) as usize
 }
 
 // t > 0
@@ -59,8 +52,8 @@ pub fn out_of_service(tables: &Tables, y: usize, g: usize) -> bool
     ensures { result ≡ out_of_service (data_of tables.now) y g }
 {
     let year = tables.by_plant(YEAR, g);
-    let this_year = long(y) + 1;
-    if tables.by_plant(KIND, g) == 0 {
+    let this_year = y as u64 + 1;
+    if tables.is_existing(g) {
         return year <= this_year;
     }
     this_year < year

@@ -7,18 +7,22 @@ ghost use Rattle.model.specs.Columns.{column_boxes};
 ghost use Rattle.column_terms.specs.Pairs.{priced_pair};
 ghost use Rattle.tables.specs.Lists.{data_of};
 
-use duals::Pricing;
 use cable_columns::{built_column, total_column};
 use capacity_columns::{build_column, cap_column, retire_column};
 use column_terms::Pair;
 use dispatch_columns::{gen_column, reserve_column};
+use duals::Pricing;
 use storage_columns::{charge_column, level_column};
 use sums::Place;
 use tables::families::{BALANCE, FIRM, SPINNING};
-use tables::names::{BUILD, BUILT_LINES, CAP, CHARGE, FIRMSHORT, GEN, LEVEL, RESERVE, RETIRE, SPINSHORT, SURPLUS, TRANS, UNMET};
+use tables::names::{
+    BUILD, BUILT_LINES, CAP, CHARGE, FIRMSHORT, GEN, LEVEL, RESERVE, RETIRE, SPINSHORT, SURPLUS,
+    TRANS, UNMET,
+};
 use zone_columns::{shortfall_column, surplus_column, trans_column};
 
 // Column p, of any kind.
+#[tactic(auto, unfolding(model::specs::Columns::column_boxes), using(tables::proofs::Laws::last_arm))]
 pub fn column_sums(pricing: &Pricing, p: Place) -> Pair
     requires { Member (column_boxes pricing.now.multipliers.counts) (index_of p) }
     ensures { result ≡ priced_pair (data_of pricing.now.tested.tables.now) pricing.now.multipliers.list.now (index_of p) }

@@ -1,14 +1,11 @@
--- What the functions of the families cite: a constant from the answers of the calls that make it, the tests that decide whether a row has
--- one, and what an arm of a dispatcher knows. Assumes nothing.
+-- What the functions of the families cite: a constant from the answers of the calls that make it, and the tests that decide whether a row has
+-- one. Assumes nothing.
 use mathlib.Core.Path.{◌≡◌, refl, sym, ap₂, ◌∙◌}
 use mathlib.Core.Bool.{Bool, true, false, ◌&&◌}
 use Prim.Native.Nat.{ℕ, ◌*◌}
 use lib.Dec.{eqb}
 use borrow.Author.Tests.{eq-eqb, ne_eqb}
 use Rattle.sums.specs.Sum.{on}
-use Rattle.model.specs.declared.Counts.{Counts}
-use Rattle.model.specs.Families.{family_of}
-use Rattle.tables.specs.Layout.{Inside}
 use Rattle.constants.specs.declared.Constant.{Constant}
 
 -- Constants
@@ -33,9 +30,3 @@ flag-on n e h = eq-eqb _ n (sym e ∙ h)
 
 pub flag_off : {a b : ℕ} (n : ℕ) → a ≡ b → (a ≡ n → ⊥) → eqb b n ≡ false
 flag_off n e h = ne_eqb _ n (λ q. h (e ∙ q))
-
--- The dispatcher
-
--- what an arm knows of the four indices, by its key
-pub inside-at : {c : Counts} {k y i j s : ℕ} (K : ℕ) → k ≡ K → Inside c (family_of k).set y i j s → Inside c (family_of K).set y i j s
-inside-at K e m = rw e at m

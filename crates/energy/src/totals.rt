@@ -1,10 +1,10 @@
 // The plants' energy Σ Dur·gen by year and season, summed once and used by families 10, 17, 19 and 20.
-ghost use Rattle.std.specs.Prelude.{◌≡◌, ◌&&◌, ◌+◌, ◌*◌, ◌<◌, eqb, length, get_or};
+ghost use Rattle.std.specs.Prelude.{ℕ, Bool, ◌≡◌, ◌&&◌, ◌+◌, ◌*◌, ◌<◌, eqb, length, get_or};
 ghost use Rattle.capped.specs.Cap.{cap};
-ghost use Rattle.model.specs.Counts.{slices_of};
+ghost use Rattle.model.specs.Counts.{slices_of, [g]};
 ghost use Rattle.model.specs.Data.{zone, fuel, duration, heat_rate, emission};
 ghost use Rattle.model.specs.Families.{season_sum};
-ghost use Rattle.tables.specs.Layout.{Counted};
+ghost use Rattle.tables.specs.Layout.{Counted, table_sets};
 ghost use Rattle.energy.specs.Energies.{energy_at, both_if, all_if, all_of, year_energy, energy_count};
 ghost use Rattle.tables.specs.Lists.{data_of};
 
@@ -65,25 +65,34 @@ fn add_energy_if(
     capped::join(total, year)
 }
 
+// Σ Dur·factor·gen in year y over the plants of which a test holds; the factor is the plant's number in table `t`.
+fn energy_of<F: Fn(usize) -> bool>(
+    tables: &Tables,
+    energy: &EnergyTable,
+    t: usize,
+    y: usize,
+    here: F,
+) -> Sum
+    requires { ((t < length table_sets) × (get_or table_sets t 0 ≡ [g])) × ((y < tables.now.counts.years) × ((g : ℕ) → g < tables.now.counts.plants → F.pre here g)) }
+    ensures { (p : ℕ → Bool) → ((g : ℕ) (b : Bool) → g < tables.now.counts.plants → F.post here g b → b ≡ p g)
+        → result ≡ all_if tables.now.counts.plants p (λ g. year_energy tables.now.counts energy.now ((data_of tables.now).entry t 0 g 0 0) y g) }
+{
+    let mut total = capped::zero();
+    for g in 0..tables.counts.plants {
+        let factor = tables.by_plant(t, g);
+        total = add_energy_if(here(g), total, factor, energy, tables.counts, y, g);
+    }
+    total
+}
+
 // Σ Dur·HeatRate·gen over the plants of zone z and fuel f, in year y.
 pub fn burned(tables: &Tables, energy: &EnergyTable, y: usize, z: u64, f: u64) -> Sum
     requires { y < tables.now.counts.years }
     ensures { result ≡ all_if tables.now.counts.plants (λ g. eqb (zone (data_of tables.now) g) z && eqb (fuel (data_of tables.now) g) f) (λ g. year_energy tables.now.counts energy.now (heat_rate (data_of tables.now) g) y g) }
 {
-    let mut total = capped::zero();
-    for g in 0..tables.counts.plants {
-        let here = (tables.by_plant(ZONE, g) == z) & (tables.by_plant(FUEL, g) == f);
-        total = add_energy_if(
-            here,
-            total,
-            tables.by_plant(HEAT_RATE, g),
-            energy,
-            tables.counts,
-            y,
-            g,
-        );
-    }
-    total
+    energy_of(tables, energy, HEAT_RATE, y, |g| {
+        (tables.by_plant(ZONE, g) == z) & (tables.by_plant(FUEL, g) == f)
+    })
 }
 
 // Σ Dur·E·gen over the plants of zone z, in year y.
@@ -91,20 +100,13 @@ pub fn emitted_in(tables: &Tables, energy: &EnergyTable, y: usize, z: u64) -> Su
     requires { y < tables.now.counts.years }
     ensures { result ≡ all_if tables.now.counts.plants (λ g. eqb (zone (data_of tables.now) g) z) (λ g. year_energy tables.now.counts energy.now (emission (data_of tables.now) g) y g) }
 {
-    let mut total = capped::zero();
-    for g in 0..tables.counts.plants {
-        let here = tables.by_plant(ZONE, g) == z;
-        total = add_energy_if(
-            here,
-            total,
-            tables.by_plant(EMISSION, g),
-            energy,
-            tables.counts,
-            y,
-            g,
-        );
-    }
-    total
+    energy_of(
+        tables,
+        energy,
+        EMISSION,
+        y,
+        |g| tables.by_plant(ZONE, g) == z,
+    )
 }
 
 // Σ Dur·E·gen over all plants, in year y.
@@ -112,17 +114,5 @@ pub fn emitted(tables: &Tables, energy: &EnergyTable, y: usize) -> Sum
     requires { y < tables.now.counts.years }
     ensures { result ≡ all_of tables.now.counts.plants (λ g. year_energy tables.now.counts energy.now (emission (data_of tables.now) g) y g) }
 {
-    let mut total = capped::zero();
-    for g in 0..tables.counts.plants {
-        total = add_energy_if(
-            true,
-            total,
-            tables.by_plant(EMISSION, g),
-            energy,
-            tables.counts,
-            y,
-            g,
-        );
-    }
-    total
+    energy_of(tables, energy, EMISSION, y, |_| true)
 }

@@ -14,7 +14,7 @@ use Rattle.sums.proofs.Spans.{or_else-fine, from_either, from-range, from_member
 use Rattle.sums.proofs.Indices.{in-member}
 use Rattle.sums.proofs.Numbering.{number_bound}
 use Rattle.model.specs.declared.Refusal.{Refusal}
-use Rattle.model.specs.declared.Certificate.TheVariants.{Withheld}
+use Rattle.std.proofs.Common.{Err}
 use Rattle.model.specs.Data.{table_boxes, place_of, data_length, read, G}
 use Rattle.model.specs.Columns.{column_boxes, column_number, entries}
 use Rattle.model.specs.Families.{row_boxes, row_number}
@@ -25,7 +25,7 @@ use Rattle.sentences.specs.Asked.{OfRow, OfColumn, HeadFine}
 use Rattle.answer_words.specs.Asked.{Asked}
 
 -- certify withholds with the fault of its tests
-withheld-fault : (f : Fault Refusal) (c g : ℕ) {r : Refusal} → certificate f c g ≡ Withheld r → f ≡ fault r
+withheld-fault : (f : Fault Refusal) (c g : ℕ) {r : Refusal} → certificate f c g ≡ Err r → f ≡ fault r
 withheld-fault fine c g e = let z : ◌≡◌ {A = ℕ} 0 1 = cc in absurd (omega arith)
 withheld-fault (fault s) c g e = cc
 
@@ -118,7 +118,7 @@ module _ (l : List ℕ) (plan : List ℕ) (ms : List ℤ) {r : Refusal} where
         from_either (columns_fault (read l) ms) _ e2 (columns-asked whole) (λ _ e3.
         asked_by _ _ tt e3)))
 
-pub refused-asked : (l : List ℕ) (N : ℕ) (plan : List ℕ) (ms : List ℤ) {r : Refusal} → certify l N plan ms ≡ Withheld r → Asked l plan ms r
+pub refused-asked : (l : List ℕ) (N : ℕ) (plan : List ℕ) (ms : List ℤ) {r : Refusal} → certify l N plan ms ≡ Err r → Asked l plan ms r
 unfolding certify certify_fault check_fault
 refused-asked l N plan ms e =
     from_either (check_fault l N plan) _ (withheld-fault (certify_fault l N plan ms) _ _ e)

@@ -10,13 +10,10 @@ use text_answers::scale_in;
 use text_reader::read_text;
 
 // The answer to a whole text: a Frame comes before every other refusal. An issued certificate binds every rival plan (demand 3).
-pub fn certify_text(input: &[u8]) -> Certificate
+pub fn certify_text(input: &[u8]) -> Result<Certificate, Refusal>
     ensures { (result ≡ certify_text input.now) × BindsText input.now result }
 {
-    let numbers = match read_text(input) {
-        Ok(numbers) => numbers,
-        Err(frame) => return Certificate::Withheld(Refusal::Frame(frame.line)),
-    };
+    let numbers = read_text(input).map_err(|frame| Refusal::Frame(frame.line))?;
     certify(
         &numbers.data,
         scale_in(&numbers.scal),

@@ -10,7 +10,7 @@ use Rattle.capped.specs.Cap.{cap, times, times_both, Sum}
 use Rattle.capped.proofs.Laws.{times-cap, times-both}
 use Rattle.sums.specs.Sum.{sum}
 use Rattle.sums.specs.Index.{Index, index, box_of, inside}
-use Rattle.sums.proofs.ByKind.{◌▹◌}
+use Rattle.sums.proofs.Lists.{Alls, at_place}
 use Rattle.sums.proofs.Sums.{sum-cong, sum-scale}
 use Rattle.model.specs.declared.Counts.{Counts}
 use Rattle.model.specs.Counts.{sets, slices_of}
@@ -84,18 +84,15 @@ module _ (plan : Plan) {t y i : ℕ} (m : Hours plan.counts t y i) where
 
 -- All tables priced by the hour
 
+-- each of a list of such kinds is one
+pub hourly-at : (kinds : List ℕ) → Alls (λ k. Hourly) kinds → (k : ℕ) → k < length kinds → Hourly (get_or kinds k 0)
+hourly-at kinds h k l = at_place (λ i. Hourly) kinds 0 h k l
+
+pub ruleset hourly_laws = (hourly-at, gen, reserve, unmet, surplus, spinshort)
+
 -- in their order
 abbrev pub hourly : List ℕ
 hourly = 3 ∷ 4 ∷ 6 ∷ 7 ∷ 8 ∷ []
-
-pub hourly-at : (k : ℕ) → k < 5 → Hourly (get_or hourly k 0)
-hourly-at =
-    (λ i l. absurd (omega arith))
-    ▹ gen
-    ▹ reserve
-    ▹ unmet
-    ▹ surplus
-    ▹ spinshort
 
 pub hours-sum : (D : Data) (c : Counts) (x : Index → ℕ) (y : ℕ) → sum 5 (λ k. hourly_cost D c x (get_or hourly k 0) y) ≡ hours_cost D c x y
 unfolding sum hours_cost

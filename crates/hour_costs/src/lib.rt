@@ -69,6 +69,7 @@ fn hourly_cost(case: &Case, t: usize, y: usize) -> Sum
 const HOURLY: [usize; 5] = [GEN, RESERVE, UNMET, SURPLUS, SPINSHORT];
 
 // Σ price·entry of all tables priced by the hour, in year y.
+#[tactic(auto, using(crate::proofs::Laws::hourly_laws))]
 pub fn hours_cost(case: &Case, y: usize) -> Sum
     requires { y < case.now.plan.counts.years }
     ensures { result ≡ cap (hours_cost (data_of case.now.tables) case.now.plan.counts (entry_of case.now.plan) y) }

@@ -9,17 +9,14 @@ ghost use Rattle.tables.specs.Lists.{data_of};
 
 use tables::lists::Tables;
 use tables::names::TL;
+use terms::totals::exact_total;
 
 // Σ TL[u,z] over the other zones u, in season q.
 pub fn limits_into(tables: &Tables, y: usize, z: usize, q: usize) -> u64
     requires { (y < tables.now.counts.years) × ((z < tables.now.counts.zones) × (q < tables.now.counts.seasons)) }
     ensures { (result ≡ sum tables.now.counts.zones (λ u. on (not (eqb u z)) (tl (data_of tables.now) y u z q))) × (result ≤ most_into) }
 {
-    let mut total = 0;
-    for u in 0..tables.counts.zones {
-        total = total + where_other(u, z, tables.by_link_season(TL, y, u, z, q));
-    }
-    total
+    exact_total(tables.counts.zones, |u| where_other(u, z, tables.by_link_season(TL, y, u, z, q)))
 }
 
 // A limit of a link between two zones, 0 within one.
@@ -34,11 +31,7 @@ pub fn lowest_limits_into(tables: &Tables, y: usize, z: usize) -> u64
     requires { (y < tables.now.counts.years) × (z < tables.now.counts.zones) }
     ensures { (result ≡ sum tables.now.counts.zones (λ u. on (not (eqb u z)) (least tables.now.counts.seasons (λ q. tl (data_of tables.now) y u z q)))) × (result ≤ most_into) }
 {
-    let mut total = 0;
-    for u in 0..tables.counts.zones {
-        total = total + where_other(u, z, lowest_limit(tables, y, u, z));
-    }
-    total
+    exact_total(tables.counts.zones, |u| where_other(u, z, lowest_limit(tables, y, u, z)))
 }
 
 // The lowest of TL[u,z] over the seasons, of which there is at least one.
@@ -48,13 +41,7 @@ fn lowest_limit(tables: &Tables, y: usize, u: usize, z: usize) -> u64
 {
     let mut lowest = tables.by_link_season(TL, y, u, z, 0);
     for q in 1..tables.counts.seasons {
-        lowest = lower(lowest, tables.by_link_season(TL, y, u, z, q));
+        lowest = lowest.min(tables.by_link_season(TL, y, u, z, q));
     }
     lowest
-}
-
-fn lower(a: u64, b: u64) -> u64
-    ensures { result ≡ min a b }
-{
-    if a < b { a } else { b }
 }

@@ -1,21 +1,16 @@
 -- Laws of the calendar and of the year's parts.
-use mathlib.Core.Path.{◌≡◌, refl, sym, ◌∙◌, ap}
+use mathlib.Core.Path.{◌≡◌}
 use mathlib.Core.Bool.{Bool, not}
-use mathlib.Core.List.{List}
-use Prim.Native.Nat.{ℕ, zero, suc, ◌+◌, ◌*◌, ◌-◌, ◌/◌, ◌≤◌, ◌<◌}
+use Prim.Native.Nat.{ℕ, zero, suc, ◌+◌, ◌*◌, ◌/◌, ◌≤◌, ◌<◌}
 use native.Mathlib.Nat.{mul-pos, mul_assoc, div-lt_iff_lt-mul, mul-le-mul}
 use native.Mathlib.Omega.{arith}
 use lib.Dec.{eqb, ltb}
-use lib.ListN.{length, get_or, take, drop, length-take, length-drop}
-use lib.Seq.{get_or-take, get_or-drop}
 use borrow.Author.Tests.{ne_eqb, lt-ltb}
-use Rattle.sums.specs.Index.{index}
 use Rattle.sums.proofs.Numbering.{below-product}
 use Rattle.model.specs.declared.Counts.{Counts}
 use Rattle.model.specs.Counts.{slices_of, season_length}
-use Rattle.tables.specs.Layout.{Counted, plan_entry}
+use Rattle.tables.specs.Layout.{Counted}
 use Rattle.tables.proofs.Laws.{few-slices}
-use Rattle.parts.specs.Years.{YearPart}
 
 -- t > 0, by the test of a day's first hour
 pub after_first : (t : ℕ) {b : Bool} → b ≡ eqb t 0 → not b ≡ ltb 0 t

@@ -1,5 +1,5 @@
 -- The year's part of a kind of column by year, plant and slice lies inside the plan, and holds that year's entries.
-use mathlib.Core.Path.{◌≡◌, refl, sym, ap, ◌∙◌}
+use mathlib.Core.Path.{◌≡◌, ap, ◌∙◌}
 use mathlib.Core.List.{List}
 use Prim.Native.Nat.{ℕ, suc, ◌+◌, ◌*◌, ◌-◌, ◌≤◌, ◌<◌}
 use native.Mathlib.Nat.{mul-pos, suc-mul}
@@ -9,7 +9,7 @@ use lib.Seq.{get_or-take, get_or-drop, length-take-le}
 use Rattle.model.specs.declared.Counts.{Counts}
 use Rattle.model.specs.Counts.{slices_of, [ygs]}
 use Rattle.model.specs.Columns.{column_sets, column_kind_count}
-use Rattle.tables.specs.Layout.{Counted, ColumnsAt, plan_entry, EntryAt}
+use Rattle.tables.specs.Layout.{Counted, ColumnsAt, EntryAt}
 use Rattle.tables.proofs.Laws.{column-below, column-is}
 use Rattle.parts.specs.Years.{YearPart}
 use Rattle.parts.proofs.Laws.{part-below, few-places}

@@ -2,21 +2,11 @@
 ghost use Rattle.std.specs.Prelude.{◌≡◌, ◌+◌, ◌≤◌, length};
 ghost use Rattle.model.specs.Calls.{replaced};
 
-// The writer: the lent part of the board takes the outputs.
-fn write(part: &mut [u32], outputs: &[u32])
-    requires { length part.old ≡ length outputs.now }
-    ensures { part.new ≡ outputs.now }
-{
-    for i in 0..outputs.len() {
-        part[i] = outputs[i];
-    }
-}
-
 // The outputs replace the board's places from `start` on; every other place keeps its number.
 pub fn replace(board: &mut [u32], start: usize, outputs: &[u32])
     requires { start + length outputs.now ≤ length board.old }
     ensures { board.new ≡ replaced board.old start outputs.now }
 {
     let end = start + outputs.len();
-    write(&mut board[start..end], outputs);
+    board[start..end].copy_from_slice(outputs);
 }

@@ -38,8 +38,5 @@ pub fn long(n: usize) -> u64
 pub fn both(a: bool, b: bool) -> bool
     ensures { result ≡ (a && b) }
 {
-    if a {
-        return b;
-    }
-    false
+    a & b
 }

@@ -4,12 +4,13 @@ use mathlib.Core.List.{List, [], ◌∷◌}
 use Prim.Native.Nat.{ℕ, ◌+◌, ◌*◌, ◌<◌}
 use native.Mathlib.Nat.{zero-add, add-zero, add_assoc, zero-mul}
 use native.Mathlib.Omega.{arith}
-use lib.ListN.{get_or}
+use lib.ListN.{get_or, length}
 use Rattle.capped.specs.Cap.{cap, times, Sum}
 use Rattle.capped.proofs.Laws.{times-cap}
 use Rattle.sums.specs.Sum.{sum}
 use Rattle.sums.specs.Index.{Index, index, box_of}
-use Rattle.sums.proofs.ByKind.{terms, ◌▹◌}
+use Rattle.sums.proofs.ByKind.{terms}
+use Rattle.sums.proofs.Lists.{Alls, at_place}
 use Rattle.sums.proofs.Sums.{sum-add, sum-single, sum-const-zero}
 use Rattle.model.specs.declared.Counts.{Counts}
 use Rattle.model.specs.Counts.{sets}
@@ -88,19 +89,16 @@ cost-by-year D c x e =
 
 -- All tables priced by the year
 
+-- each of a list of such kinds is one
+pub yearly-at : (kinds : List ℕ) → Alls (λ k. Yearly) kinds → (k : ℕ) → k < length kinds → Yearly (get_or kinds k 0)
+yearly-at kinds h k l = at_place (λ i. Yearly) kinds 0 h k l
+
 -- in their order
 abbrev pub yearly : List ℕ
 yearly = 0 ∷ 9 ∷ 13 ∷ []
-
-pub yearly-at : (k : ℕ) → k < 3 → Yearly (get_or yearly k 0)
-yearly-at =
-    (λ i l. absurd (omega arith))
-    ▹ of_cap
-    ▹ of_firmshort
-    ▹ of_total
 
 pub year-sum : (D : Data) (c : Counts) (x : Index → ℕ) (y : ℕ) → sum 3 (λ k. yearly_cost D c x (get_or yearly k 0) y) + hours_cost D c x y ≡ year_cost D c x y
 unfolding sum year_cost
 year-sum D c x y = omega arith
 
-pub ruleset year_laws = (by-year, yearly-at)
+pub ruleset year_laws = (by-year, yearly-at, of_cap, of_firmshort, of_total)

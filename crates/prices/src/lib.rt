@@ -52,6 +52,7 @@ fn yearly_cost(case: &Case, t: usize, y: usize) -> Sum
 const YEARLY: [usize; 3] = [CAP, FIRMSHORT, TOTAL_LINES];
 
 // Σ price·entry in year y; build, retire, trans, charge, level and built have no price.
+#[tactic(auto, using(crate::proofs::Laws::year_laws))]
 fn year_cost(case: &Case, y: usize) -> Sum
     requires { y < case.now.plan.counts.years }
     ensures { result ≡ cap (year_cost (data_of case.now.tables) case.now.plan.counts (entry_of case.now.plan) y) }

@@ -7,14 +7,13 @@ ghost use Rattle.sums.specs.Index.{index_of, number, Member};
 ghost use Rattle.model.specs.Columns.{column_boxes};
 ghost use Rattle.model.specs.Tests.{column_fault, columns_fault};
 ghost use Rattle.model.specs.Calls.{outcome};
-
 ghost use Rattle.column_prices.specs.Factors.{unit_price};
 ghost use Rattle.tables.specs.Lists.{data_of};
 
-use duals::Pricing;
 use capped::Sum;
 use column_prices::{hours_of, unit_price};
 use columns::column_sums;
+use duals::Pricing;
 use model::{COLUMN_KIND_COUNT, Refusal};
 use sums::Place;
 use tables::starts::column_box;

@@ -1,32 +1,16 @@
--- What the row functions work on and answer.
-use Rattle.std.specs.Prelude.{◌≡◌, List, ℕ, ◌*◌, ◌-◌}
+-- What the row functions answer.
+use Rattle.std.specs.Prelude.{ℕ, ◌*◌, ◌-◌}
 use Rattle.capped.specs.Cap.{cap, plus, Sum}
-use Rattle.sums.specs.Span.{fine}
 use Rattle.sums.specs.Index.{Index, index}
 use Rattle.sums.specs.Linear.{◌·◌, value}
-use Rattle.model.specs.declared.Counts.{Counts}
-use Rattle.model.specs.Data.{Data, read}
+use Rattle.model.specs.Data.{Data}
 use Rattle.model.specs.Columns.{cap as cap_column}
 use Rattle.model.specs.Families.{Equation, equation, ramp}
-use Rattle.model.specs.Tests.{above, below, constant⁺, constant⁻, entries_fault}
-use Rattle.tables.specs.Layout.{TablesAt, ColumnsAt, plan_entry}
-use Rattle.parts.specs.Years.{YearPart, gen_kind, reserve_kind, charge_kind, level_kind}
-use Rattle.energy.specs.Energies.{Energies}
+use Rattle.model.specs.Tests.{above, below, constant⁺, constant⁻}
 use Rattle.constants.specs.declared.Constant.{Constant}
 use Rattle.row_sums.specs.declared.Change.{Change}
 use Rattle.row_sums.specs.declared.Change.TheVariants.{Fall, Rise}
 use Rattle.row_sums.specs.declared.Sides.{Sides}
-
--- what the rows of every family work on: data and plan as laid out and tested, the parts of year y, and the energies
-pub record Ready (l plan os rs cs ls : List ℕ) (energy : List Sum) (tables-at columns-at : List ℕ) (c : Counts) (y : ℕ) : Type 0 where
-  pub tables_at : TablesAt l tables-at c
-  pub sound : entries_fault (read l) ≡ fine
-  pub columns_at : ColumnsAt plan columns-at c
-  pub outputs : YearPart plan os c gen_kind y
-  pub reserves : YearPart plan rs c reserve_kind y
-  pub charges : YearPart plan cs c charge_kind y
-  pub levels : YearPart plan ls c level_kind y
-  pub energies : Energies (read l) (plan_entry c plan) energy c
 
 -- two numbers, each as a capped sum
 abbrev pub sides : ℕ → ℕ → Sides

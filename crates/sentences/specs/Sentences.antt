@@ -1,10 +1,9 @@
 -- Rows, columns, entries, plants and figures in words, as bytes. A row, a column and an entry have the number that an answer gives; their indices, and a plant, are counted from 1.
-use Rattle.std.specs.Prelude.{Bool, cond, List, ◌++◌, ℕ, ◌-◌, eqb, ltb, ℤ, pos, get_or}
+use Rattle.std.specs.Prelude.{Bool, cond, List, ◌++◌, ℕ, ◌-◌, eqb, ltb, ℤ, pos, get_or, Some, None, Result, Ok, Err}
 use Prim.Native.String.{String}
-use Rattle.compared.specs.declared.Amount.{Amount}
-use Rattle.compared.specs.declared.Amount.TheVariants.{Exactly, Above}
-use Rattle.compared.specs.declared.Balance.{Balance}
-use Rattle.compared.specs.declared.Balance.TheVariants.{Is, BelowZero, Unsure}
+use Rattle.capped.specs.Cap.{Sum}
+use Rattle.compared.specs.declared.NoBalance.{NoBalance}
+use Rattle.compared.specs.declared.NoBalance.TheVariants.{BelowZero, Unsure}
 use Rattle.sums.specs.Index.{Index, index}
 use Rattle.model.specs.declared.Counts.{Counts}
 use Rattle.model.specs.Data.{Data, table_boxes, most_counts}
@@ -31,15 +30,15 @@ with words n = bytes words ++ decimal n
 
 -- Figures
 
-unfoldable pub amount_words : Amount → List ℕ
-amount_words (Exactly v) = decimal v
-amount_words Above = bytes "more than 2^62 - 1"
+unfoldable pub amount_words : Sum → List ℕ
+amount_words (Some v) = decimal v
+amount_words None = bytes "more than 2^62 - 1"
 
 -- of an underpriced column the figure is there
-unfoldable pub balance_words : Balance → List ℕ
-balance_words (Is v) = decimal v
-balance_words BelowZero = bytes "nothing"
-balance_words Unsure = bytes "an unknown amount"
+unfoldable pub balance_words : Result ℕ NoBalance → List ℕ
+balance_words (Ok v) = decimal v
+balance_words (Err BelowZero) = bytes "nothing"
+balance_words (Err Unsure) = bytes "an unknown amount"
 
 -- a signed number, by its sizes above zero and below
 unfoldable pub signed_words : Multiplier → List ℕ

@@ -6,18 +6,19 @@ ghost use Rattle.std.specs.Prelude.{◌≡◌};
 ghost use Rattle.writer.specs.Writing.{room, added};
 ghost use Rattle.sentences.specs.Sentences.{amount_words, balance_words, signed_words, range_words, length_words};
 
-use compared::{Amount, Balance};
+use capped::Sum;
+use compared::{Balance, NoBalance};
 use duals::Multiplier;
 use writer::{Line, ROOM};
 
 // A sum, or that it is above the limit.
 #[tactic(auto, unfolding(crate::specs::Sentences::amount_words))]
-pub fn say_amount(line: &mut Line<ROOM>, amount: Amount)
+pub fn say_amount(line: &mut Line<ROOM>, amount: Sum)
     ensures { line.new ≡ added room line.old (amount_words amount) }
 {
     match amount {
-        Amount::Exactly(v) => line.say_number(v),
-        Amount::Above => line.say(b"more than 2^62 - 1"),
+        Some(v) => line.say_number(v),
+        None => line.say(b"more than 2^62 - 1"),
     }
 }
 
@@ -27,9 +28,9 @@ pub fn say_balance(line: &mut Line<ROOM>, balance: Balance)
     ensures { line.new ≡ added room line.old (balance_words balance) }
 {
     match balance {
-        Balance::Is(v) => line.say_number(v),
-        Balance::BelowZero => line.say(b"nothing"),
-        Balance::Unsure => line.say(b"an unknown amount"),
+        Ok(v) => line.say_number(v),
+        Err(NoBalance::BelowZero) => line.say(b"nothing"),
+        Err(NoBalance::Unsure) => line.say(b"an unknown amount"),
     }
 }
 

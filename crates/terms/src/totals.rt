@@ -1,7 +1,8 @@
-// Sums of capped terms, whatever the term, and a term under a test.
-ghost use Rattle.std.specs.Prelude.{◌≡◌, ℕ, ◌*◌, ◌<◌};
+// Sums of terms, whatever the term: capped, or of so few and small numbers that a word holds them; and a term under a test.
+ghost use Rattle.std.specs.Prelude.{◌≡◌, ℕ, ◌*◌, ◌≤◌, ◌<◌};
 ghost use Rattle.capped.specs.Cap.{cap, Sum};
 ghost use Rattle.sums.specs.Sum.{sum, on};
+ghost use Rattle.model.specs.Data.{most32};
 
 use capped::Sum;
 
@@ -13,6 +14,21 @@ pub fn total<F: Fn(usize) -> Sum>(n: usize, term: F) -> Sum
     let mut total = capped::zero();
     for i in 0..n {
         total = capped::join(total, term(i));
+    }
+    total
+}
+
+// The same of up to 2^32 - 1 numbers, each up to 2^32 - 1: a word holds their sum.
+pub fn exact_total<F: Fn(usize) -> u64>(n: usize, term: F) -> u64
+    requires few { n ≤ most32 }
+    requires callable { (i : ℕ) → i < n → F.pre term i }
+    requires small { (i r : ℕ) → i < n → F.post term i r → r ≤ most32 }
+    ensures value { (f : ℕ → ℕ) → ((i r : ℕ) → i < n → F.post term i r → r ≡ f i) → result ≡ sum n f }
+    ensures bound { result ≤ n * most32 }
+{
+    let mut total = 0;
+    for i in 0..n {
+        total += term(i);
     }
     total
 }

@@ -6,7 +6,8 @@ use Prim.Native.Nat.{ℕ, ◌<◌}
 use native.Mathlib.Omega.{arith}
 use lib.ListN.{length}
 use Rattle.model.specs.declared.Certificate.{Certificate}
-use Rattle.model.specs.declared.Certificate.TheVariants.{Withheld}
+use Rattle.std.specs.Prelude.{Result, Err}
+use Rattle.model.specs.declared.Refusal.{Refusal}
 use Rattle.model.specs.declared.Refusal.TheVariants.{Frame}
 use Rattle.model.specs.Calls.{certify}
 use Rattle.texts.specs.Format.{line_feed, Lists, Text, frame_at, whole, text_of}
@@ -30,8 +31,8 @@ unfolding certify_text earlier_certify_text
 answered-as-before input h = same_answer (text_of input) (scal-read input h)
 
 -- without one, an answer by a default d is certify's to the same text with a SCAL line of d behind it
-default-read : {l : List ℕ} {d : ℕ} → ScalLine l d → (answer : Text → Certificate)
-    → ((n : ℕ) → answer (frame_at n) ≡ Withheld (Frame n)) → ((s : Lists) → s.of_scal ≡ [] → answer (whole s) ≡ certify s.of_data d s.of_plan s.of_dual)
+default-read : {l : List ℕ} {d : ℕ} → ScalLine l d → (answer : Text → Result Certificate Refusal)
+    → ((n : ℕ) → answer (frame_at n) ≡ Err (Frame n)) → ((s : Lists) → s.of_scal ≡ [] → answer (whole s) ≡ certify s.of_data d s.of_plan s.of_dual)
     → (input : List ℕ) → has_scal input ≡ false → answer (text_of input) ≡ certificate_of (text_of (input ++ (l ++ (line_feed ∷ []))))
 default-read {d = d} scal answer frames wholes input h = go (text_of input) (no-scal-read input h) ∙ ap certificate_of (sym (scale-behind scal input h))
   where

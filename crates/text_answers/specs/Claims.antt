@@ -1,7 +1,7 @@
 -- What is proved of the definition, as statements; the proofs are in proofs/.
-use Rattle.std.specs.Prelude.{true, false, List, ◌++◌, ◌≡◌, ℕ, ◌+◌, ◌≤◌, take}
-use Rattle.model.specs.declared.Certificate.TheVariants.{Issued, Withheld}
+use Rattle.std.specs.Prelude.{true, false, List, ◌++◌, ◌≡◌, ℕ, ◌+◌, ◌≤◌, take, Err}
 use Rattle.model.specs.declared.Refusal.TheVariants.{DataLength}
+use Rattle.model.specs.Calls.{issued}
 use Rattle.texts.specs.Claims.{bytes, most_good, most_line, has_scal}
 use Rattle.text_answers.specs.Earlier.{earlier_certify_text}
 use Rattle.text_answers.specs.Format.{certify_text, BindsText}
@@ -26,7 +26,7 @@ FirstCase =
     (first_data
     ++ (bytes "PLAN 0000000A 00000000 00000000 00000008 00000000 00000000 00000000 00000000 00000000 00000000 00000000 00000000 00000000 00000000\n"
     ++ (bytes "SCAL 00000001\n" ++ first_dual)))
-    ≡ Issued 40000000000 0
+    ≡ issued 40000000000 0
 
 -- its plan in kW, without a SCAL line
 abbrev pub FirstCaseInThousandths : Type 0
@@ -35,11 +35,11 @@ FirstCaseInThousandths =
     (first_data
     ++ (bytes "PLAN 00002710 00000000 00000000 00001F40 00000000 00000000 00000000 00000000 00000000 00000000 00000000 00000000 00000000 00000000\n"
     ++ first_dual))
-    ≡ Issued 40000000000000 0
+    ≡ issued 40000000000000 0
 
 -- an empty input has no line: `R 2 7`
 abbrev pub EmptyInput : Type 0
-EmptyInput = certify_text (bytes "") ≡ Withheld (DataLength 7)
+EmptyInput = certify_text (bytes "") ≡ Err (DataLength 7)
 
 -- what stands behind the first 176,142 + 1,093 bytes decides nothing, so a program may keep a buffer of fixed size
 abbrev pub FixedBuffer : Type 0

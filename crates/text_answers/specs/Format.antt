@@ -1,7 +1,7 @@
 -- What certify answers to a text (document 01, "The certify program"; document 02 (v)). The text's format is texts/specs/Format.antt.
-use Rattle.std.specs.Prelude.{List, ℕ, get_or}
+use Rattle.std.specs.Prelude.{List, ℕ, get_or, Result, Err}
 use Rattle.model.specs.declared.Certificate.{Certificate}
-use Rattle.model.specs.declared.Certificate.TheVariants.{Withheld}
+use Rattle.model.specs.declared.Refusal.{Refusal}
 use Rattle.model.specs.declared.Refusal.TheVariants.{Frame}
 use Rattle.model.specs.Calls.{certify}
 use Rattle.model.specs.Rival.{Binds}
@@ -16,17 +16,17 @@ abbrev pub scale_in : List ℕ → ℕ
 scale_in xs = get_or xs 0 default_scale
 
 -- any Frame comes before every other refusal
-abbrev pub certificate_of : Text → Certificate
-certificate_of (frame_at n) = Withheld (Frame n)
+abbrev pub certificate_of : Text → Result Certificate Refusal
+certificate_of (frame_at n) = Err (Frame n)
 certificate_of (whole s) = certify s.of_data (scale_in s.of_scal) s.of_plan s.of_dual
 
-unfoldable pub certify_text : List ℕ → Certificate
+unfoldable pub certify_text : List ℕ → Result Certificate Refusal
 certify_text input = certificate_of (text_of input)
 
 -- demand 3 of a text: an issued certificate binds every rival plan over the text's data, at the text's scale
-abbrev pub BindsRead : Text → Certificate → Type 0
+abbrev pub BindsRead : Text → Result Certificate Refusal → Type 0
 BindsRead (frame_at n) r = Unit {0}
 BindsRead (whole s) r = Binds s.of_data (scale_in s.of_scal) r
 
-abbrev pub BindsText : List ℕ → Certificate → Type 0
+abbrev pub BindsText : List ℕ → Result Certificate Refusal → Type 0
 BindsText input r = BindsRead (text_of input) r

@@ -1,7 +1,7 @@
 // One line: its word, and its numbers behind those of the word's earlier lines.
 ghost use Rattle.std.specs.Prelude.{◌≡◌, ℕ, ◌*◌, ◌^◌, ◌≤◌, ◌<◌, Some, unwrap_or, IfSome};
 ghost use Rattle.std.specs.Option.{option_and};
-ghost use Rattle.std.proofs.Common.{rules};
+ghost use Rattle.std.proofs.Common.{lit≤};
 ghost use Rattle.text_numbers.specs.Numbers.{signed};
 ghost use Rattle.texts.specs.Format.{plain, digits, dual_digits, word_of, count, join};
 
@@ -44,7 +44,7 @@ impl FromDigits for u32 {
 
     const DIGITS: usize = 8;
 
-    ghost few = { Prim.search rules };
+    ghost few = { lit≤ tt };
 
     fn from_digits(v: u64) -> u32 {
         v as u32
@@ -59,7 +59,7 @@ impl FromDigits for i64 {
 
     const DIGITS: usize = 16;
 
-    ghost few = { Prim.search rules };
+    ghost few = { lit≤ tt };
 
     fn from_digits(v: u64) -> i64 {
         v.cast_signed()

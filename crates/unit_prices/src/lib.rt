@@ -33,12 +33,14 @@ pub fn line_price(tables: &Tables, z: usize, w: usize) -> u64
     ensures { result ≡ on (ltb z w) (line_annuity (data_of tables.now) z w) }
 {
     if z < w {
-        return tables.by_pair(LINE_ANNUITY, z, w);
+        tables.by_pair(LINE_ANNUITY, z, w)
+    } else {
+        0
     }
-    0
 }
 
 // The price of an hour without the factor W: of gen by plant and year, of reserve by plant, of the others one figure.
+#[tactic(auto, unfolding(crate::specs::Prices::hour_price))]
 pub fn hour_price(tables: &Tables, t: usize, y: usize, i: usize) -> Sum
     requires { Hourly t × ((y < tables.now.counts.years) × (i < firsts_of tables.now.counts t)) }
     ensures { result ≡ cap (hour_price (data_of tables.now) t y i) }

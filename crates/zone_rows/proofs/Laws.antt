@@ -12,8 +12,8 @@ use Rattle.model.specs.Counts.{slices_of}
 use Rattle.tables.specs.Layout.{plan_entry}
 use Rattle.parts.specs.Years.{YearPart}
 
--- a year's part stands for the plan, in a sum over the plants for which w stands for z
-pub part-sum : {plan part : List ℕ} {c : Counts} {t y s : ℕ} → YearPart plan part c t y → s < slices_of c
-    → {r : Sum} {w z : ℕ} (F : ℕ → ℕ → ℕ → ℕ) → r ≡ cap (sum c.plants (λ g. F w g (get_or part (g * slices_of c + s) 0))) → w ≡ z
-    → r ≡ cap (sum c.plants (λ g. F z g (plan_entry c plan (index t y g 0 s))))
-part-sum p h {z = z} F e q = e ∙ rw q (ap cap (sum-cong _ (λ g l. ap (F z g) (p.is g _ l h))))
+-- a year's part stands for the plan, in a sum over the plants
+pub part-sum : {plan part : List ℕ} {c d : Counts} {t y s : ℕ} → YearPart plan part c t y → c ≡ d → s < slices_of c
+    → {r : Sum} (F : ℕ → ℕ → ℕ) → r ≡ cap (sum d.plants (λ g. F g (get_or part (g * slices_of d + s) 0)))
+    → r ≡ cap (sum c.plants (λ g. F g (plan_entry c plan (index t y g 0 s))))
+part-sum p same h F e = e ∙ rw (← same) (ap cap (sum-cong _ (λ g l. ap (F g) (p.is g _ l h))))

@@ -6,5 +6,5 @@ use Rattle.cable_rows.proofs.new_lines.Goals as goal
 pub returns : goal.returns
 unfolding sides_of constant_of
 returns c =
-    rw c.args.case.now.tables.laid_out.counts
+    rw (c.args.case.now.tables.laid_out.counts, ← c.args.case.now.same_counts)
     (limit _ _ c.at_most.ensures c.new_lines_constant.ensures c.over_years.ensures)

@@ -1,4 +1,6 @@
-use Rattle.std.proofs.Common.{refl}
+use mathlib.Core.Path.{refl, ◌∙◌}
+use native.Mathlib.Omega.{arith}
+use Rattle.writer.proofs.Laws.{added-fitting}
 use Rattle.certify.specs.Printed.{printed}
 use Rattle.certify.proofs.answer.Goals as goal
 
@@ -6,5 +8,9 @@ pub returns : goal.returns
 unfolding printed
 returns c =
     let certificate = c.certify_text.ensures in
-    let line = c.answer_line.ensures in
-    rw (← certificate.0) (line.0, (line.1.0, (line.1.1, (_, (refl, certificate.1)))))
+    let said = rw c.new-line.ensures at c.answer_line.ensures.said in
+    rw (← certificate.0) (record {
+      whole = said ∙ added-fitting _ _ _ (omega (arith, c.answer_line.ensures.short));
+      short = rw (said, added-fitting) c.answer_line.ensures.short;
+      binds = (_, (refl, certificate.1));
+    })

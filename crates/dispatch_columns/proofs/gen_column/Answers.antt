@@ -1,7 +1,5 @@
-use mathlib.Core.Path.{refl}
-use native.Mathlib.Omega.{arith}
 use Rattle.tables.specs.Lists.{data_of}
-use Rattle.column_terms.proofs.Laws.{counts_of, plant-ramp, add-priced-if, join-priced, priced-as}
+use Rattle.column_terms.proofs.Laws.{counts_of, add-priced-if, join-priced, priced-as}
 use Rattle.dispatch_columns.proofs.Groups.{gen-together⁺, gen-together⁻}
 use Rattle.dispatch_columns.proofs.gen_column.Goals as goal
 

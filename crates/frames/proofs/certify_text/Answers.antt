@@ -1,16 +1,20 @@
-use mathlib.Core.Path.{ap, ◌∙◌}
+use mathlib.Core.Path.{◌≡◌, sym, ap, ◌∙◌}
+use borrow.Author.Rules.{rules}
 use Rattle.text_answers.specs.Format.{certificate_of, certify_text}
 use Rattle.text_answers.proofs.Laws.{text-binds}
+use Rattle.frames.proofs.Laws.{numbers-read, frame-told, handed-on}
 use Rattle.frames.proofs.certify_text.Goals as goal
 
-pub returns-in-Err : goal.returns-in-Err
+pub returns-in_err-numbers : goal.returns-in_err-numbers
 unfolding certify_text
-returns-in-Err c =
-    let same = ap certificate_of c.in-Err.ensures in
+returns-in_err-numbers c =
+    let frame = frame-told c.read_text.result _ _ c.map_err.ensures.cases (λ f d p. search rules) _ c.in_err-numbers.was in
+    let same = handed-on _ _ c.from_residual.ensures ∙ (frame ∙ ap certificate_of c.read_text.ensures) in
     (same, rw same (text-binds _))
 
 pub returns : goal.returns
 unfolding certify_text
 returns c =
-    let same = c.certify.ensures.1.0 ∙ rw (c.scale_in.ensures, c.deref.ensures.0, c.deref-2.ensures.0, c.deref-3.ensures.0, c.deref-4.ensures.0) (ap certificate_of c.in-Ok.ensures) in
+    let read = sym (numbers-read c.read_text.result _ _ c.map_err.ensures.cases _ c.in_ok-numbers.was) ∙ c.read_text.ensures in
+    let same = c.certify.ensures.1.0 ∙ rw (c.scale_in.ensures, c.deref.ensures.0, c.deref-2.ensures.0, c.deref-3.ensures.0, c.deref-4.ensures.0) (ap certificate_of read) in
     (same, rw same (text-binds _))

@@ -3,12 +3,9 @@ use lib.ListN.{get_or}
 use Rattle.capped.specs.Cap.{cap}
 use Rattle.tables.specs.Lists.{data_of, entry_of}
 use Rattle.hour_costs.specs.Costs.{hourly_cost}
-use Rattle.hour_costs.proofs.Laws.{hourly, hourly-at, hours-sum}
+use Rattle.hour_costs.proofs.Laws.{hourly, hours-sum}
 use borrow.Author.Rules.{rules}
 use Rattle.hour_costs.proofs.hours_cost.Goals as goal
-
-pub total-requires : goal.total-requires
-total-requires c = λ i l. search (rules, hourly-at)
 
 pub returns : goal.returns
 returns c =

@@ -4,12 +4,9 @@ use Rattle.capped.specs.Cap.{cap}
 use Rattle.capped.proofs.Laws.{both-cap}
 use Rattle.tables.specs.Lists.{data_of, entry_of}
 use Rattle.hour_costs.specs.Costs.{yearly_cost}
-use Rattle.prices.proofs.Laws.{yearly, yearly-at, year-sum}
+use Rattle.prices.proofs.Laws.{yearly, year-sum}
 use borrow.Author.Rules.{rules}
 use Rattle.prices.proofs.year_cost.Goals as goal
-
-pub total-fixed-requires : goal.total-fixed-requires
-total-fixed-requires c = λ i l. search (rules, yearly-at)
 
 pub returns : goal.returns
 returns c =

@@ -1,16 +1,18 @@
-use mathlib.Core.Path.{refl, ◌∙◌}
-use Prim.Native.Nat.{◌-◌}
+use mathlib.Core.Path.{refl, ap, ◌∙◌}
 use native.Mathlib.Omega.{arith}
+use lib.ListN.{get_or}
+use Rattle.sums.specs.Index.{box_of}
+use Rattle.model.specs.declared.Counts.{Counts}
+use Rattle.model.specs.Counts.{sets}
+use Rattle.model.specs.Columns.{column_sets}
 use Rattle.tables.proofs.Steps.{none, more, turn, walked_none, walked_more, walked_all}
 use Rattle.tables.proofs.Steps.{member-number, member_below, stopped, outcome-fine, outcome-fails}
+use Rattle.column_terms.proofs.Laws.{counts_of}
 use Rattle.pricing.proofs.Steps.{table_below, tables_end, columns-fit, box-is, column-member, first_below, second_below, year-below, answered}
 use Rattle.pricing.proofs.test_columns.Goals as goal
 
 pub walk-init : goal.walk-init
 walk-init c = walked_none refl refl
-
-pub column_box-b-requires : goal.column_box-b-requires
-column_box-b-requires c = (c.args.pricing.now.tables_at.counted, c.walk-test.true)
 
 pub loop-y-init : goal.loop-y-init
 loop-y-init c = none c.walk.invariant.accepted
@@ -25,16 +27,14 @@ pub unit_price-unit-requires : goal.unit_price-unit-requires
 unit_price-unit-requires c =
     let p = c.args.pricing.now in
     let l = c.walk-test.true in
-    let b = c.column_box-b.ensures.0 in
-    let hy = year-below _ l b p.tables_at.counted c.loop-y-test.true in
-    (p.tables_at, (l, (hy, (first_below _ l b c.loop-i-test.true, second_below _ l b c.loop-j-test.true))))
+    let b = c.column_box-b.ensures.0 ∙ ap (λ (d : Counts). box_of (sets d) (get_or column_sets c.walk.k 0)) p.same_counts in
+    (l, (year-below _ l b p.tested.tables.now.laid_out.counted c.loop-y-test.true, (first_below _ l b c.loop-i-test.true, second_below _ l b c.loop-j-test.true)))
 
 pub loop-s-init : goal.loop-s-init
 loop-s-init c = none c.loop-j.invariant.accepted
 
 pub test_column-requires : goal.test_column-requires
 test_column-requires c =
-    let p = c.args.pricing.now in
     let l = c.walk-test.true in
     let b = c.column_box-b.ensures.0 in
     let hy = c.loop-y-test.true in
@@ -42,7 +42,7 @@ test_column-requires c =
     let hj = c.loop-j-test.true in
     let hs = c.loop-s-test.true in
     let number = member-number c.walk.invariant (table_below _ l) (box-is _ l b) c.loop-y.invariant hy c.loop-i.invariant hi c.loop-j.invariant hj c.loop-s.invariant hs in
-    (p, (column-member _ l b hy hi hj hs, (c.unit_price-unit.ensures, number)))
+    (column-member _ l b hy hi hj hs, (c.unit_price-unit.ensures, number))
 
 pub overflow_add-column : goal.overflow_add-column
 overflow_add-column c =
@@ -58,7 +58,7 @@ overflow_add-column c =
 pub loop-s-preserved : goal.loop-s-preserved
 loop-s-preserved c =
     let h = c.loop-s.invariant in
-    more h c.loop-s-test.true (outcome-fine _ c.test_column.ensures c.in-Fine.is) h.accepted refl
+    more h c.loop-s-test.true (outcome-fine _ c.test_column.ensures c.in-Ok.is) h.accepted refl
 
 pub loop-j-preserved : goal.loop-j-preserved
 loop-j-preserved c = turn c.loop-j.invariant c.loop-j-test.true c.loop-s.invariant c.loop-s-test.false refl (omega arith)
@@ -76,16 +76,16 @@ walk-preserved c =
     walked_more c.walk.invariant (table_below _ l) (box-is _ l b.0) b.1 c.loop-y.invariant c.loop-y-test.false
 
 pub returns-after-walk : goal.returns-after-walk
-returns-after-walk c = c.walk.invariant.accepted ∙ answered _ _ c.args.pricing.now.tables_at.counts (walked_all c.walk.invariant (tables_end _ c.walk-test.false))
+returns-after-walk c = c.walk.invariant.accepted ∙ answered _ _ (counts_of c.args.pricing.now) (walked_all c.walk.invariant (tables_end _ c.walk-test.false))
 
-pub returns-in-Fails : goal.returns-in-Fails
-returns-in-Fails c =
+pub returns-in-Err : goal.returns-in-Err
+returns-in-Err c =
     let l = c.walk-test.true in
     let hy = c.loop-y-test.true in
     let hi = c.loop-i-test.true in
     let hj = c.loop-j-test.true in
     let hs = c.loop-s-test.true in
     let b = box-is _ l c.column_box-b.ensures.0 in
-    let broken = outcome-fails _ c.test_column.ensures c.in-Fails.is in
-    answered _ _ c.args.pricing.now.tables_at.counts
+    let broken = outcome-fails _ c.test_column.ensures c.in-Err.is in
+    answered _ _ (counts_of c.args.pricing.now)
     (stopped c.walk.invariant (table_below _ l) b c.loop-y.invariant hy c.loop-i.invariant hi c.loop-j.invariant hj c.loop-s.invariant hs broken)

@@ -1,8 +1,8 @@
-use mathlib.Core.Path.{refl, sym, ◌∙◌}
+use mathlib.Core.Path.{sym, ◌∙◌}
 use native.Mathlib.Omega.{arith}
 use Rattle.model.specs.Standing.{charge_in⁺, charge_in⁻}
 use Rattle.tables.specs.Lists.{data_of}
-use Rattle.column_terms.proofs.Laws.{counts_of, plant-ramp, none-priced, take-priced, join-priced, priced-as, ramps-are}
+use Rattle.column_terms.proofs.Laws.{counts_of, none-priced, take-priced, join-priced, priced-as, ramps-are}
 use Rattle.storage_columns.proofs.charge_column.Goals as goal
 
 pub returns-then-not-is_battery : goal.returns-then-not-is_battery

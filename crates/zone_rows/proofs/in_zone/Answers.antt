@@ -10,5 +10,5 @@ use Rattle.zone_rows.proofs.in_zone.Goals as goal
 pub returns : goal.returns
 returns c k m part links =
     let D = read c.args.case.now.tables.list.now in
-    let plants = part-sum part c.requires.1 (λ z g v. on (eqb (zone D g) z) (1000 * v)) c.zone_sum-plants.ensures c.long.ensures in
+    let plants = part-sum part c.args.case.now.same_counts c.requires.1 (λ g v. on (eqb (zone D g) c.args.z) (1000 * v)) c.zone_sum-plants.ensures in
     plus-is _ c.add_product.ensures (join_is _ _ c.join.ensures plants links) refl c.by_year_zone_slice.ensures.0

@@ -1,4 +1,3 @@
-use mathlib.Core.Path.{◌∙◌}
 use Rattle.parts.proofs.Parts.{places-are, part-asked, part-is}
 use Rattle.parts.proofs.years.year_part.Goals as goal
 
