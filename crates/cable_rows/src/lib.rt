@@ -7,8 +7,8 @@ ghost use Rattle.model.specs.Families.{row};
 ghost use Rattle.row_sums.specs.Ready.{sides_of};
 ghost use Rattle.tables.specs.Lists.{data_of, entry_of};
 
-use tables::lists::{Case, Plan};
 use row_sums::{Sides, at_most, empty};
+use tables::lists::{Case, Plan};
 use tables::names::{BUILT_LINES, TOTAL_LINES};
 use tables::sets::BY_LINK;
 use terms::years::{earlier, over_years};
@@ -23,11 +23,7 @@ pub fn line_balance(plan: &Plan, y: usize, z: usize, w: usize) -> Sides
     let before = earlier(plan, TOTAL_LINES, BY_LINK, y, z, w);
     Sides {
         above: capped::product(1, total),
-        below: capped::add_product(
-            before,
-            1,
-            plan.by_link(BUILT_LINES, y, z, w),
-        ),
+        below: capped::add_product(before, 1, plan.by_link(BUILT_LINES, y, z, w)),
     }
 }
 
@@ -52,13 +48,7 @@ pub fn lines_both_ways(plan: &Plan, y: usize, z: usize, w: usize) -> Sides
         return empty();
     }
     Sides {
-        above: capped::product(
-            1,
-            plan.by_link(TOTAL_LINES, y, z, w),
-        ),
-        below: capped::product(
-            1,
-            plan.by_link(TOTAL_LINES, y, w, z),
-        ),
+        above: capped::product(1, plan.by_link(TOTAL_LINES, y, z, w)),
+        below: capped::product(1, plan.by_link(TOTAL_LINES, y, w, z)),
     }
 }

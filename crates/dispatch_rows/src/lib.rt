@@ -13,13 +13,13 @@ ghost use Rattle.row_sums.specs.Ready.{sides_of, terms_of, high, low, ramp_of};
 ghost use Rattle.tables.specs.Layout.{table_sets};
 ghost use Rattle.tables.specs.Lists.{data_of, entry_of};
 
-use tables::lists::{Case, Plan};
 use capped::Sum;
 use energy::totals::{EnergyTable, energy_at};
 use model::Counts;
 use parts::slices::{day_of, first_hour, season_of};
 use parts::years::part_at;
 use row_sums::{Change, Sides, empty};
+use tables::lists::{Case, Plan};
 use tables::names::{AVAILABILITY, CAP, MIN_CAP_FAC, MIN_LOAD, OVER_LOAD, PROFILE, RES_OFFER};
 use terms::plants::season_hours;
 
@@ -40,7 +40,14 @@ fn in_thousandths(part: &[u32], c: Counts, g: usize, s: usize) -> Sum
 }
 
 // 5 (22): 1000·(gen + reserve) ≤ (1000 + OverLoad)·cap
-pub fn loading(case: &Case, outputs: &[u32], reserves: &[u32], y: usize, g: usize, s: usize) -> Sides
+pub fn loading(
+    case: &Case,
+    outputs: &[u32],
+    reserves: &[u32],
+    y: usize,
+    g: usize,
+    s: usize,
+) -> Sides
     requires { (YearPart case.now.plan.list.now outputs.now case.now.plan.counts gen_kind y × YearPart case.now.plan.list.now reserves.now case.now.plan.counts reserve_kind y) × ((y < case.now.plan.counts.years) × ((g < case.now.plan.counts.plants) × (s < slices_of case.now.plan.counts))) }
     ensures { (N : ℕ) → result ≡ sides_of (data_of case.now.tables) N (entry_of case.now.plan) (row 5 y g 0 s) }
 {
@@ -68,7 +75,15 @@ pub fn offer(case: &Case, reserves: &[u32], y: usize, g: usize, s: usize) -> Sid
 
 // A ramp over the hour before, t > 0, of a year's part of gen or charge: 1000 times its fall, or its rise, is at most the table `rate` times cap.
 // 7 (24): the fall of gen, RampDn; 8 (25): its rise, RampUp; 23 and 24 by `charge_ramp`.
-pub fn ramp(case: &Case, part: &[u32], rate: usize, change: Change, y: usize, g: usize, s: usize) -> Sides
+pub fn ramp(
+    case: &Case,
+    part: &[u32],
+    rate: usize,
+    change: Change,
+    y: usize,
+    g: usize,
+    s: usize,
+) -> Sides
     requires { (EntryAt table_sets case.now.plan.counts rate [g] 0 g 0 0 × (length part.now ≡ case.now.plan.counts.plants * slices_of case.now.plan.counts)) × ((y < case.now.plan.counts.years) × ((g < case.now.plan.counts.plants) × (s < slices_of case.now.plan.counts))) }
     ensures { (k : ℕ) → YearPart case.now.plan.list.now part.now case.now.plan.counts k y → result ≡ terms_of (ramp_of (data_of case.now.tables) ((data_of case.now.tables).entry rate 0 g 0 0) k change y g s) (entry_of case.now.plan) }
 {
@@ -100,7 +115,12 @@ pub fn minimum_load(case: &Case, outputs: &[u32], y: usize, g: usize, s: usize) 
     requires { YearPart case.now.plan.list.now outputs.now case.now.plan.counts gen_kind y × ((y < case.now.plan.counts.years) × ((g < case.now.plan.counts.plants) × (s < slices_of case.now.plan.counts))) }
     ensures { (N : ℕ) → result ≡ sides_of (data_of case.now.tables) N (entry_of case.now.plan) (row 9 y g 0 s) }
 {
-    if case.tables.by_day(MIN_LOAD, season_of(case.plan.counts, s), day_of(case.plan.counts, s)) != 1 {
+    if case.tables.by_day(
+        MIN_LOAD,
+        season_of(case.plan.counts, s),
+        day_of(case.plan.counts, s),
+    ) != 1
+    {
         return empty();
     }
     let rate = case.tables.by_plant(MIN_CAP_FAC, g);

@@ -8,10 +8,13 @@ ghost use Rattle.energy.specs.Energies.{Energies};
 ghost use Rattle.row_sums.specs.Ready.{sides_of};
 ghost use Rattle.tables.specs.Lists.{data_of, entry_of};
 
-use tables::lists::{Case, Tables};
 use energy::totals::{EnergyTable, burned, emitted, emitted_in};
-use fleet_constants::{capital_constant, fuel_use_constant, new_capacity_constant, stock_constant, system_emission_constant, yearly_build_constant, zone_emission_constant};
+use fleet_constants::{
+    capital_constant, fuel_use_constant, new_capacity_constant, stock_constant,
+    system_emission_constant, yearly_build_constant, zone_emission_constant,
+};
 use row_sums::{Sides, at_most, empty, with_constant};
+use tables::lists::{Case, Tables};
 use tables::names::{BUILD, CAP, KIND, RETIRE, YEAR};
 use tables::sets::BY_YEAR_PLANT;
 use terms::plants::capital_sum;
@@ -27,22 +30,14 @@ pub fn stock(case: &Case, scale: u64, y: usize, g: usize) -> Sides
     if case.tables.by_plant(KIND, g) != 0 {
         return Sides {
             above: own,
-            below: capped::add_product(
-                before,
-                1,
-                case.plan.by_year_plant(BUILD, y, g),
-            ),
+            below: capped::add_product(before, 1, case.plan.by_year_plant(BUILD, y, g)),
         };
     }
     if y == 0 {
         return with_constant(own, before, scale, stock_constant(&case.tables, y, g));
     }
     Sides {
-        above: capped::add_product(
-            own,
-            1,
-            case.plan.by_year_plant(RETIRE, y, g),
-        ),
+        above: capped::add_product(own, 1, case.plan.by_year_plant(RETIRE, y, g)),
         below: before,
     }
 }
@@ -115,7 +110,14 @@ pub fn yearly_build(case: &Case, scale: u64, y: usize, g: usize) -> Sides
 }
 
 // 17 (62): Σ Dur·HeatRate·gen of that zone and fuel ≤ 1000·MaxFuel
-pub fn fuel_use(tables: &Tables, energy: &EnergyTable, scale: u64, y: usize, z: usize, f: usize) -> Sides
+pub fn fuel_use(
+    tables: &Tables,
+    energy: &EnergyTable,
+    scale: u64,
+    y: usize,
+    z: usize,
+    f: usize,
+) -> Sides
     requires { (y < tables.now.counts.years) × ((z < tables.now.counts.zones) × (f < tables.now.counts.fuels)) }
     ensures { (x : Index → ℕ) → Energies (data_of tables.now) x energy.now tables.now.counts → result ≡ sides_of (data_of tables.now) scale x (row 17 y z f 0) }
 {
@@ -130,11 +132,7 @@ pub fn fuel_use(tables: &Tables, energy: &EnergyTable, scale: u64, y: usize, z: 
 pub fn capital(case: &Case, scale: u64) -> Sides
     ensures { result ≡ sides_of (data_of case.now.tables) scale (entry_of case.now.plan) (row 18 0 0 0 0) }
 {
-    at_most(
-        capital_sum(case),
-        scale,
-        capital_constant(&case.tables),
-    )
+    at_most(capital_sum(case), scale, capital_constant(&case.tables))
 }
 
 // 19 (66): Σ Dur·E·gen in z ≤ 1000·zone cap

@@ -1,7 +1,7 @@
 -- What the functions of the gap cite: a row's term, the families that are walked, what each of the five loops knows, and the answer.
 -- Assumes nothing.
 use Rattle.model.specs.declared.Refusal.{Refusal}
-use Rattle.std.specs.Prelude.{}
+use Rattle.std.specs.Prelude.{Err}
 use mathlib.Core.Path.{◌≡◌, refl, sym, ap, ◌∙◌}
 use mathlib.Core.Bool.{Bool, true, false, cond, ◌&&◌}
 use mathlib.Core.List.{List}
@@ -12,7 +12,7 @@ use lib.Dec.{leb, ltb}
 use lib.IntN.{ℤ, pos}
 use lib.ListN.{get_or}
 use borrow.Author.Tests.{le-leb, ltb-true}
-use Rattle.compared.specs.declared.Balance.TheVariants.{Unsure}
+use Rattle.compared.specs.declared.NoBalance.TheVariants.{Unsure}
 use Rattle.capped.specs.Cap.{limit, cap, times, Sum}
 use Rattle.compared.specs.Compared.{minus, net_of}
 use Rattle.capped.proofs.Laws.{plus-cap, times-cap}
@@ -152,7 +152,7 @@ pub settled_is : (c a b : ℕ) → c ≤ limit
 unfolding settled unless
 settled_is c a b h = rw (net-cap c a b, le-leb c limit h) (go (leb a limit && leb b limit))
   where
-    go : (t : Bool) → settled c (cond t (minus (c + a) b) Unsure) ≡ certificate (unless t GapOffScale) c (c + a - b)
+    go : (t : Bool) → settled c (cond t (minus (c + a) b) (Err Unsure)) ≡ certificate (unless t GapOffScale) c (c + a - b)
     go true = cut_off c (c + a) b
     go false = refl
 

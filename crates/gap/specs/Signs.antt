@@ -2,10 +2,10 @@
 use Rattle.model.specs.declared.Refusal.{Refusal}
 use Rattle.model.specs.Calls.{issued}
 use Rattle.model.specs.declared.Certificate.{Certificate}
-use Rattle.std.specs.Prelude.{cond, List, ℕ, ◌+◌, ◌*◌, ◌-◌, ℤ, Result, Err}
+use Rattle.std.specs.Prelude.{cond, List, ℕ, ◌+◌, ◌*◌, ◌-◌, ℤ, Result, Ok, Err}
 use Rattle.capped.specs.Cap.{cap, plus}
-use Rattle.compared.specs.declared.Balance.{Balance}
-use Rattle.compared.specs.declared.Balance.TheVariants.{Is, BelowZero, Unsure}
+use Rattle.compared.specs.Compared.{Balance}
+use Rattle.compared.specs.declared.NoBalance.TheVariants.{BelowZero, Unsure}
 use Rattle.sums.specs.declared.Box.{Box}
 use Rattle.sums.specs.Index.{Index, box, box_of}
 use Rattle.model.specs.declared.Counts.{Counts}
@@ -52,6 +52,6 @@ walked_box c k = cond (has_constant k) (box_of (row_boxes c) k) (box 0 0 0 0)
 
 -- the certificate of a cost and of what is left of it with all terms N·m·k; a gap below zero counts as 0
 unfoldable pub settled : ℕ → Balance → Result Certificate Refusal
-settled c (Is g) = issued c g
-settled c BelowZero = issued c 0
-settled c Unsure = Err GapOffScale
+settled c (Ok g) = issued c g
+settled c (Err BelowZero) = issued c 0
+settled c (Err Unsure) = Err GapOffScale

@@ -13,11 +13,11 @@ ghost use Rattle.gap.specs.Signs.{with_row, with_term, walked_box, terms_of, set
 ghost use Rattle.tables.specs.Lists.{data_of};
 
 use capped::Sum;
-use compared::Balance;
+use compared::NoBalance;
 use constants::families::has_constant;
 use constants::{Constant, netted};
 use duals::{Multiplier, Pricing};
-use model::{FAMILY_COUNT, Certificate, Counts, Refusal};
+use model::{Certificate, Counts, FAMILY_COUNT, Refusal};
 use row_constants::constant_at;
 use sums::{Box, Place};
 use tables::sets::{box_of, family_at};
@@ -34,11 +34,11 @@ fn with_row(t: BySign, m: Multiplier, k: Constant) -> BySign
     ensures { result ≡ with_row t m k }
 {
     let n = netted(k);
-    let up = t.up;
-    let down = t.down;
+    let up = capped::add_product(t.up, m.up, n.adds);
+    let down = capped::add_product(t.down, m.up, n.takes);
     BySign {
-        up: capped::add_product(capped::add_product(up, m.up, n.adds), m.down, n.takes),
-        down: capped::add_product(capped::add_product(down, m.up, n.takes), m.down, n.adds),
+        up: capped::add_product(up, m.down, n.takes),
+        down: capped::add_product(down, m.down, n.adds),
     }
 }
 
@@ -57,8 +57,7 @@ fn walked_box(c: Counts, k: usize) -> Box
     ensures { result ≡ walked_box c k }
 {
     if has_constant(k) {
-        let f = family_at(k);
-        return box_of(c, f.set);
+        return box_of(c, family_at(k).set);
     }
     Box {
         years: 0,
@@ -99,15 +98,15 @@ pub fn constant_terms(pricing: &Pricing) -> BySign
 }
 
 // The certificate of a cost, with N·m·k summed by sign: cost and gap, or refusal 13.
+#[tactic(auto, unfolding(crate::specs::Signs::settled))]
 fn certificate_of(cost: u64, up: Sum, down: Sum) -> Result<Certificate, Refusal>
     ensures { result ≡ settled cost (net_of (cap cost) up down) }
 {
-    let left = compared::net(capped::of(cost), up, down);
-    match left {
-        Balance::Is(gap) => Ok(Certificate { cost: cost, gap: gap }),
+    match compared::net(capped::of(cost), up, down) {
+        Ok(gap) => Ok(Certificate { cost, gap }),
         // Never reached where the plan passed: it is a rival of its own, so the gap is not below zero (`WholeGap`).
-        Balance::BelowZero => Ok(Certificate { cost: cost, gap: 0 }),
-        Balance::Unsure => Err(Refusal::GapOffScale),
+        Err(NoBalance::BelowZero) => Ok(Certificate { cost, gap: 0 }),
+        Err(NoBalance::Unsure) => Err(Refusal::GapOffScale),
     }
 }
 
@@ -116,8 +115,10 @@ pub fn gap_of(pricing: &Pricing, scale: u64, cost: u64) -> Result<Certificate, R
     requires { cost ≤ limit }
     ensures { result ≡ certificate (gap_fault (data_of pricing.now.tested.tables.now) pricing.now.multipliers.list.now scale) cost (gap (data_of pricing.now.tested.tables.now) pricing.now.multipliers.list.now scale cost) }
 {
-    let t = constant_terms(pricing);
-    let up = t.up;
-    let down = t.down;
-    certificate_of(cost, capped::scale(up, scale), capped::scale(down, scale))
+    let terms = constant_terms(pricing);
+    certificate_of(
+        cost,
+        capped::scale(terms.up, scale),
+        capped::scale(terms.down, scale),
+    )
 }

@@ -12,6 +12,7 @@ use tables::lists::Case;
 use tables::names::{CHARGE, GEN, LEVEL, RESERVE};
 
 // A year of a case: data that passed refusal 3, the year's parts of gen, reserve, charge and level, and the plants' energies in all years.
+#[derive(Clone, Copy)]
 pub struct Year<'a> {
     pub case: &'a Case<'a>,
     pub year: usize,

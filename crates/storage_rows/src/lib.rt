@@ -13,7 +13,6 @@ ghost use Rattle.row_sums.specs.Ready.{sides_of, terms_of, ramp_of};
 ghost use Rattle.tables.specs.Layout.{table_sets};
 ghost use Rattle.tables.specs.Lists.{data_of, entry_of};
 
-use tables::lists::{Case, Tables};
 use capped::Sum;
 use dispatch_rows::ramp;
 use fleet_constants::level_limit_constant;
@@ -21,10 +20,19 @@ use model::Counts;
 use parts::slices::first_hour;
 use parts::years::part_at;
 use row_sums::{Change, Sides, at_most, empty};
+use tables::lists::{Case, Tables};
 use tables::names::{CAP, EFFICIENCY};
 
 // 21 (42, 43), battery: level = level[s−1] (0 before a day's first slice) + Efficiency·charge − 1000·gen
-pub fn battery_level(tables: &Tables, outputs: &[u32], charges: &[u32], levels: &[u32], y: usize, g: usize, s: usize) -> Sides
+pub fn battery_level(
+    tables: &Tables,
+    outputs: &[u32],
+    charges: &[u32],
+    levels: &[u32],
+    y: usize,
+    g: usize,
+    s: usize,
+) -> Sides
     requires { ((length outputs.now ≡ tables.now.counts.plants * slices_of tables.now.counts) × ((length charges.now ≡ tables.now.counts.plants * slices_of tables.now.counts) × (length levels.now ≡ tables.now.counts.plants * slices_of tables.now.counts))) × ((g < tables.now.counts.plants) × (s < slices_of tables.now.counts)) }
     ensures { (plan : List ℕ) → YearPart plan outputs.now tables.now.counts gen_kind y → YearPart plan charges.now tables.now.counts charge_kind y → YearPart plan levels.now tables.now.counts level_kind y
         → (N : ℕ) → result ≡ sides_of (data_of tables.now) N (plan_entry tables.now.counts plan) (row 21 y g 0 s) }
@@ -66,7 +74,15 @@ pub fn charge_limit(case: &Case, charges: &[u32], y: usize, g: usize, s: usize) 
 }
 
 // 23 (47), battery: the rise of charge, RampDn; 24 (48): its fall, RampUp
-pub fn charge_ramp(case: &Case, charges: &[u32], rate: usize, change: Change, y: usize, g: usize, s: usize) -> Sides
+pub fn charge_ramp(
+    case: &Case,
+    charges: &[u32],
+    rate: usize,
+    change: Change,
+    y: usize,
+    g: usize,
+    s: usize,
+) -> Sides
     requires { (EntryAt table_sets case.now.plan.counts rate [g] 0 g 0 0 × YearPart case.now.plan.list.now charges.now case.now.plan.counts charge_kind y) × ((y < case.now.plan.counts.years) × ((g < case.now.plan.counts.plants) × (s < slices_of case.now.plan.counts))) }
     ensures { result ≡ terms_of (only (is_battery (data_of case.now.tables) g) (ramp_of (data_of case.now.tables) ((data_of case.now.tables).entry rate 0 g 0 0) charge_kind change y g s)) (entry_of case.now.plan) }
 {
@@ -77,7 +93,14 @@ pub fn charge_ramp(case: &Case, charges: &[u32], rate: usize, change: Change, y:
 }
 
 // 25 (46): battery: level ≤ energy capacity; any other plant: level ≤ 0
-pub fn level_limit(tables: &Tables, levels: &[u32], scale: u64, y: usize, g: usize, s: usize) -> Sides
+pub fn level_limit(
+    tables: &Tables,
+    levels: &[u32],
+    scale: u64,
+    y: usize,
+    g: usize,
+    s: usize,
+) -> Sides
     requires { (length levels.now ≡ tables.now.counts.plants * slices_of tables.now.counts) × ((g < tables.now.counts.plants) × (s < slices_of tables.now.counts)) }
     ensures { (plan : List ℕ) → YearPart plan levels.now tables.now.counts level_kind y → result ≡ sides_of (data_of tables.now) scale (plan_entry tables.now.counts plan) (row 25 y g 0 s) }
 {

@@ -1,9 +1,7 @@
 -- The verdict on a column, as the code finds it and as the document says it. Assumes nothing.
-use Rattle.model.specs.declared.Refusal.{Refusal}
-use Rattle.std.specs.Prelude.{Result, Err}
 use Rattle.model.specs.Calls.{outcome}
-use mathlib.Core.Path.{◌≡◌, ◌∙◌}
-use mathlib.Core.Bool.{Bool, true, false, ◌&&◌, ◌||◌}
+use mathlib.Core.Path.{◌≡◌}
+use mathlib.Core.Bool.{◌&&◌}
 use mathlib.Core.List.{List}
 use mathlib.Core.Logic.{⊎_elim}
 use Prim.Native.Nat.{ℕ, ◌+◌, ◌≤◌, ◌<◌}
@@ -12,9 +10,8 @@ use native.Mathlib.Omega.{arith}
 use lib.Dec.{leb}
 use lib.IntN.{ℤ}
 use borrow.Author.Tests.{le-ltb, lt-ltb, le-leb, lt-leb}
-use Rattle.compared.specs.declared.Order.{Order}
-use Rattle.capped.specs.Cap.{limit, cap, both, times, Sum}
-use Rattle.compared.specs.Compared.{over, order}
+use Rattle.capped.specs.Cap.{limit, cap, times, Sum}
+use Rattle.compared.specs.Compared.{order}
 use Rattle.capped.proofs.Laws.{le-or-lt, both-cap}
 use Rattle.compared.proofs.Laws.{over-cap, lt_order, eq-order, gt-order}
 use Rattle.sums.specs.Span.{or_else}
@@ -30,23 +27,6 @@ use Rattle.column_prices.proofs.Laws.{column-price}
 use Rattle.column_terms.specs.declared.Pair.{Pair}
 use Rattle.column_terms.specs.Pairs.{priced_pair}
 use Rattle.verdicts.specs.Columns.{verdict_of, ordered}
-
--- the code's ways out
-pub either-over : (a b : Sum) → over a ≡ true → true ≡ (over a || over b)
-either-over a b e = rw e
-
-pub second-over : (a b : Sum) {r : Bool} → over a ≡ false → r ≡ over b → r ≡ (over a || over b)
-second-over a b e q = q ∙ rw e
-
-module _ (v : Pair) (p : Sum) (column : ℕ) where
-  pub off-scale : (over v.up || over v.down) ≡ true → Err (ColumnOffScale column) ≡ verdict_of v p column
-  unfolding verdict_of
-  off-scale a = rw a
-
-  pub on-scale : {w : Result (Unit {0}) Refusal} {t : Sum} (o : Order) → (over v.up || over v.down) ≡ false → t ≡ both p v.down → order v.up t ≡ o
-      → w ≡ ordered o column → w ≡ verdict_of v p column
-  unfolding verdict_of
-  on-scale o a j q h = h ∙ rw (a, ← j, q)
 
 -- terms above zero up to the limit: whether the column is priced well
 judged : (u n column : ℕ) → u ≤ limit → ordered (order (cap u) (cap n)) column ≡ outcome (unless (leb u n) (Underpriced column))

@@ -1,8 +1,6 @@
 -- The verdict on a row, as the code finds it and as the document says it. Assumes nothing.
-use Rattle.model.specs.declared.Refusal.{Refusal}
-use Rattle.std.specs.Prelude.{Result, Err}
 use Rattle.model.specs.Calls.{outcome}
-use mathlib.Core.Path.{◌≡◌, refl, ◌∙◌}
+use mathlib.Core.Path.{◌≡◌, refl}
 use mathlib.Core.Bool.{Bool, true, false, ◌&&◌}
 use mathlib.Core.Logic.{⊎_elim}
 use Prim.Native.Nat.{ℕ, ◌≤◌, ◌<◌}
@@ -10,9 +8,8 @@ use native.Mathlib.Nat.{eq-or-lt_of_le}
 use native.Mathlib.Omega.{arith}
 use lib.Dec.{leb}
 use borrow.Author.Tests.{eq-eqb, ne_eqb, le-ltb, lt-ltb, le-leb, lt-leb}
-use Rattle.compared.specs.declared.Order.{Order}
 use Rattle.capped.specs.Cap.{limit, cap}
-use Rattle.compared.specs.Compared.{over, order}
+use Rattle.compared.specs.Compared.{order}
 use Rattle.capped.proofs.Laws.{le-or-lt}
 use Rattle.compared.proofs.Laws.{over-cap, lt_order, eq-order, gt-order}
 use Rattle.sums.specs.Span.{or_else}
@@ -24,21 +21,6 @@ use Rattle.model.specs.Tests.{above, below, constant⁺, constant⁻, unless, ho
 use Rattle.row_sums.specs.declared.Sides.{Sides}
 use Rattle.row_sums.specs.Ready.{sides_of}
 use Rattle.verdicts.specs.Rows.{verdict_of, ordered}
-
--- the code's ways out
-module _ (v : Sides) (e : Bool) (row : ℕ) where
-  pub above-over : over v.above ≡ true → Err (RowOffScale row) ≡ verdict_of v e row
-  unfolding verdict_of
-  above-over a = rw a
-
-  pub below-over : over v.above ≡ false → over v.below ≡ true → Err (RowOffScale row) ≡ verdict_of v e row
-  unfolding verdict_of
-  below-over a b = rw (a, b)
-
-  pub neither-over : {w : Result (Unit {0}) Refusal} (o : Order) → over v.above ≡ false → over v.below ≡ false → order v.below v.above ≡ o → w ≡ ordered e o row
-      → w ≡ verdict_of v e row
-  unfolding verdict_of
-  neither-over o a b q h = h ∙ rw (a, b, q)
 
 -- two exact sums up to the limit: whether the row holds
 judged : (e : Bool) (lo hi row : ℕ) → lo ≤ limit → hi ≤ limit → ordered e (order (cap lo) (cap hi)) row ≡ outcome (unless (holds e lo hi) (Broken row))

@@ -2,32 +2,22 @@
 ghost use Rattle.std.specs.Prelude.{◌≡◌};
 ghost use Rattle.verdicts.specs.Rows.{verdict_of};
 
-use compared::Order;
-use model::{Refusal};
+use model::Refusal;
 use row_sums::Sides;
+use std::cmp::Ordering;
 
 // 6 where a sum is over the limit, else 7 where the row does not hold.
+#[tactic(auto, unfolding(crate::specs::Rows::verdict_of, compared::specs::Compared::over))]
 pub fn verdict(sides: Sides, equal: bool, row: usize) -> Result<(), Refusal>
     ensures { result ≡ verdict_of sides equal row }
 {
-    let above = sides.above;
-    let below = sides.below;
-    if compared::is_over(above) {
+    if sides.above.is_none() || sides.below.is_none() {
         return Err(Refusal::RowOffScale(row));
     }
-    if compared::is_over(below) {
-        return Err(Refusal::RowOffScale(row));
-    }
-    match compared::compare(below, above) {
-        Order::Less => {
-            if equal {
-                return Err(Refusal::Broken(row));
-            }
-            Ok(())
-        }
-        Order::Equal => Ok(()),
-        Order::Greater => Err(Refusal::Broken(row)),
-        // Never reached: neither sum is over here, and of two such sums the order is known (compared's law `order-unknown`).
-        Order::Unknown => Err(Refusal::Broken(row)),
+    match compared::compare(sides.below, sides.above) {
+        Some(Ordering::Less) if !equal => Ok(()),
+        Some(Ordering::Equal) => Ok(()),
+        // None is never reached: neither sum is over here, and of two such sums the order is known (compared's law `order-unknown`).
+        _ => Err(Refusal::Broken(row)),
     }
 }

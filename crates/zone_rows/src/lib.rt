@@ -16,16 +16,24 @@ ghost use Rattle.model.specs.Columns.{column_sets};
 ghost use Rattle.tables.specs.Layout.{EntryAt};
 ghost use Rattle.tables.specs.Lists.{data_of, entry_of};
 
-use tables::lists::{Case, TestedTables};
 use capped::Sum;
 use links::{Direction, flows, lines_into, received};
 use row_sums::{Sides, with_constant};
+use tables::lists::{Case, TestedTables};
 use tables::names::{ERR, FIRMSHORT, MW_PER_LINE, SPINSHORT, SURPLUS, TOTAL_LINES, TRANS, UNMET};
 use terms::plants::{credit_sum, vre_sum, zone_sum};
 use zone_constants::{balance_constant, firm_constant, spinning_constant, transfer_constant};
 
 // 1 (14): 1000·Σ gen in z − 1000·Σ charge in z − 1000·Σ trans[z,z2] + Σ (1000 − Loss[z2,z])·trans[z2,z] + unmet − surplus = Demand·EE
-pub fn balance(case: &Case, outputs: &[u32], charges: &[u32], scale: u64, y: usize, z: usize, s: usize) -> Sides
+pub fn balance(
+    case: &Case,
+    outputs: &[u32],
+    charges: &[u32],
+    scale: u64,
+    y: usize,
+    z: usize,
+    s: usize,
+) -> Sides
     requires { ((entries_fault (data_of case.now.tables) ≡ fine) × (YearPart case.now.plan.list.now outputs.now case.now.plan.counts gen_kind y × YearPart case.now.plan.list.now charges.now case.now.plan.counts charge_kind y)) × ((y < case.now.plan.counts.years) × ((z < case.now.plan.counts.zones) × (s < slices_of case.now.plan.counts))) }
     ensures { result ≡ sides_of (data_of case.now.tables) scale (entry_of case.now.plan) (row 1 y z 0 s) }
 {
@@ -37,7 +45,14 @@ pub fn balance(case: &Case, outputs: &[u32], charges: &[u32], scale: u64, y: usi
         above,
         below,
         scale,
-        balance_constant(&TestedTables { tables: &case.tables }, y, z, s),
+        balance_constant(
+            &TestedTables {
+                tables: &case.tables,
+            },
+            y,
+            z,
+            s,
+        ),
     )
 }
 
@@ -61,14 +76,8 @@ pub fn transfer(case: &Case, scale: u64, y: usize, z: usize, w: usize, s: usize)
     ensures { result ≡ sides_of (data_of case.now.tables) scale (entry_of case.now.plan) (row 2 y z w s) }
 {
     let power = case.tables.by_pair(MW_PER_LINE, z, w);
-    let lines = capped::product(
-        power,
-        case.plan.by_link(TOTAL_LINES, y, z, w),
-    );
-    let flow = capped::product(
-        1,
-        case.plan.by_link_slice(TRANS, y, z, w, s),
-    );
+    let lines = capped::product(power, case.plan.by_link(TOTAL_LINES, y, z, w));
+    let flow = capped::product(1, case.plan.by_link_slice(TRANS, y, z, w, s));
     with_constant(
         lines,
         flow,
@@ -78,20 +87,21 @@ pub fn transfer(case: &Case, scale: u64, y: usize, z: usize, w: usize, s: usize)
 }
 
 // 3 (19): 1000·Σ reserve in z + spinshort + 1000·Σ (TL[z2,z] + MW per line[z2,z]·total[z2,z] − trans[z2,z]) ≥ 1000·SRes + Err·Σ gen of VRE in z
-pub fn spinning(case: &Case, outputs: &[u32], reserves: &[u32], scale: u64, y: usize, z: usize, s: usize) -> Sides
+pub fn spinning(
+    case: &Case,
+    outputs: &[u32],
+    reserves: &[u32],
+    scale: u64,
+    y: usize,
+    z: usize,
+    s: usize,
+) -> Sides
     requires { (YearPart case.now.plan.list.now outputs.now case.now.plan.counts gen_kind y × YearPart case.now.plan.list.now reserves.now case.now.plan.counts reserve_kind y) × ((y < case.now.plan.counts.years) × ((z < case.now.plan.counts.zones) × (s < slices_of case.now.plan.counts))) }
     ensures { result ≡ sides_of (data_of case.now.tables) scale (entry_of case.now.plan) (row 3 y z 0 s) }
 {
     let held = zone_sum(&case.tables, reserves, z as u64, s);
-    let with_short = capped::add_product(
-        held,
-        1,
-        case.plan.by_year_zone_slice(SPINSHORT, y, z, s),
-    );
-    let above = capped::join(
-        with_short,
-        lines_into(case, y, z),
-    );
+    let with_short = capped::add_product(held, 1, case.plan.by_year_zone_slice(SPINSHORT, y, z, s));
+    let above = capped::join(with_short, lines_into(case, y, z));
     let err = case.tables.single(ERR);
     let below = capped::join(
         flows(&case.plan, Direction::Inward, y, z, s),
@@ -111,15 +121,17 @@ pub fn firm(case: &Case, scale: u64, y: usize, z: usize) -> Sides
     ensures { result ≡ sides_of (data_of case.now.tables) scale (entry_of case.now.plan) (row 4 y z 0 0) }
 {
     let credit = credit_sum(case, y, z as u64);
-    let above = capped::add_product(
-        credit,
-        1,
-        case.plan.by_year_zone(FIRMSHORT, y, z),
-    );
+    let above = capped::add_product(credit, 1, case.plan.by_year_zone(FIRMSHORT, y, z));
     with_constant(
         above,
         capped::zero(),
         scale,
-        firm_constant(&TestedTables { tables: &case.tables }, y, z),
+        firm_constant(
+            &TestedTables {
+                tables: &case.tables,
+            },
+            y,
+            z,
+        ),
     )
 }

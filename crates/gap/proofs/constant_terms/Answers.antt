@@ -1,4 +1,4 @@
-use mathlib.Core.Path.{refl}
+use mathlib.Core.Path.{refl, sym, ◌∙◌}
 use Prim.Native.Nat.{◌-◌}
 use Rattle.model.specs.Data.{read}
 use Rattle.gap.specs.Signs.{term⁺, term⁻, with_term}
@@ -7,9 +7,6 @@ use Rattle.gap.proofs.constant_terms.Goals as goal
 
 pub loop-k-init : goal.loop-k-init
 loop-k-init c = begin
-
-pub walked_box-b-requires : goal.walked_box-b-requires
-walked_box-b-requires c = (c.args.pricing.now.tested.tables.now.laid_out.counted, c.loop-k-test.true)
 
 pub loop-y-init : goal.loop-y-init
 loop-y-init c = begin
@@ -25,9 +22,7 @@ loop-s-init c = begin
 
 pub add_term-t-requires : goal.add_term-t-requires
 add_term-t-requires c =
-    let k = c.loop-k-test.true in
-    let m = walked-member _ _ c.walked_box-b.ensures k c.loop-y-test.true c.loop-i-test.true c.loop-j-test.true c.loop-s-test.true in
-    (c.args.pricing.now.tested.tables.now.laid_out, (c.args.pricing.now.tested.tested, (c.args.pricing.now.multipliers.laid_out, m)))
+    walked-member _ _ c.walked_box-b.ensures c.loop-k-test.true c.loop-y-test.true c.loop-i-test.true c.loop-j-test.true c.loop-s-test.true
 
 pub loop-s-preserved : goal.loop-s-preserved
 unfolding with_term
@@ -45,8 +40,8 @@ loop-y-preserved c = turn c.loop-y.invariant c.loop-y-test.true c.loop-i.invaria
 pub loop-k-preserved : goal.loop-k-preserved
 loop-k-preserved c =
     let a = c.args in
-    let D = read a.«data».now in
-    let ms = a.ms.now in
+    let D = read a.pricing.now.tested.tables.now.list.now in
+    let ms = a.pricing.now.multipliers.list.now in
     let l = c.loop-k-test.true in
     let b = c.walked_box-b.ensures in
     turn c.loop-k.invariant l c.loop-y.invariant c.loop-y-test.false
@@ -54,4 +49,4 @@ loop-k-preserved c =
 
 pub returns : goal.returns
 returns c =
-    all-terms _ _ c.args.pricing.now.tested.tables.now.laid_out.counts (rw (c.zero.ensures, c.zero-2.ensures)) c.loop-k.invariant c.loop-k-test.false
+    all-terms _ _ (c.args.pricing.now.tested.tables.now.laid_out.counts ∙ sym c.args.pricing.now.same_counts) (rw (c.zero.ensures, c.zero-2.ensures)) c.loop-k.invariant c.loop-k-test.false

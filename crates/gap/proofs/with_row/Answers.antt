@@ -7,4 +7,4 @@ pub returns : goal.returns
 unfolding with_row netted_of
 returns c =
     let t = c.args.t in
-    rw (c.add_product-2.ensures, c.add_product.ensures, c.add_product-4.ensures, c.add_product-3.ensures, c.netted-n.ensures, plus-plus t.up _ _, plus-plus t.down _ _)
+    rw (c.add_product.ensures, c.add_product-up.ensures, c.add_product-2.ensures, c.add_product-down.ensures, c.netted-n.ensures, plus-plus t.up _ _, plus-plus t.down _ _)

@@ -1,53 +1,17 @@
-use mathlib.Core.Path.{refl, ap, ◌∙◌}
+use mathlib.Core.Path.{refl, sym, ap, ◌∙◌}
 use Prim.Native.Nat.{◌-◌}
 use native.Mathlib.Omega.{arith}
 use Rattle.model.specs.declared.Family.{Family}
-use Rattle.tables.proofs.Laws.{small}
 use Rattle.tables.proofs.Steps.{none, more, turn, walked_none, walked_more, walked_all}
 use Rattle.tables.proofs.Steps.{member-number, member_below, stopped, outcome-fine, outcome-fails}
-use Rattle.parts.specs.Years.{gen_kind, reserve_kind, charge_kind, level_kind}
-use Rattle.parts.proofs.Parts.{places-are, part-asked}
-use Rattle.rows.proofs.Readiness.{ready}
 use Rattle.row_tests.proofs.Steps.{box-is, inside_is, year-below, family-below, families-end, rows_fit, answered}
 use Rattle.row_tests.proofs.test_rows.Goals as goal
-
-pub slices_of-requires : goal.slices_of-requires
-slices_of-requires c = c.args.case.now.tables.laid_out.counted
-
-pub overflow_mul-places : goal.overflow_mul-places
-overflow_mul-places c = small 32 384 tt c.args.case.now.tables.laid_out.counted.few_plants c.slices_of.ensures.1
 
 pub walk-init : goal.walk-init
 walk-init c = walked_none refl refl
 
-pub family_at-f-requires : goal.family_at-f-requires
-family_at-f-requires c = c.walk-test.true
-
-pub box_of-b-requires : goal.box_of-b-requires
-box_of-b-requires c = c.args.case.now.tables.laid_out.counted
-
 pub loop-y-init : goal.loop-y-init
 loop-y-init c = none c.walk.invariant.accepted
-
-pub year_part-outputs-requires : goal.year_part-outputs-requires
-year_part-outputs-requires c =
-    let hy = year-below _ c.walk-test.true c.family_at-f.ensures c.box_of-b.ensures.0 c.args.case.now.tables.laid_out.counted c.loop-y-test.true in
-    part-asked c.args.case.now.tables.laid_out.counted c.args.case.now.plan.laid_out hy (places-are c.args.case.now.plan.counts c.slices_of.ensures.0) gen_kind (omega arith) refl
-
-pub year_part-reserves-requires : goal.year_part-reserves-requires
-year_part-reserves-requires c =
-    let hy = year-below _ c.walk-test.true c.family_at-f.ensures c.box_of-b.ensures.0 c.args.case.now.tables.laid_out.counted c.loop-y-test.true in
-    part-asked c.args.case.now.tables.laid_out.counted c.args.case.now.plan.laid_out hy (places-are c.args.case.now.plan.counts c.slices_of.ensures.0) reserve_kind (omega arith) refl
-
-pub year_part-charges-requires : goal.year_part-charges-requires
-year_part-charges-requires c =
-    let hy = year-below _ c.walk-test.true c.family_at-f.ensures c.box_of-b.ensures.0 c.args.case.now.tables.laid_out.counted c.loop-y-test.true in
-    part-asked c.args.case.now.tables.laid_out.counted c.args.case.now.plan.laid_out hy (places-are c.args.case.now.plan.counts c.slices_of.ensures.0) charge_kind (omega arith) refl
-
-pub year_part-levels-requires : goal.year_part-levels-requires
-year_part-levels-requires c =
-    let hy = year-below _ c.walk-test.true c.family_at-f.ensures c.box_of-b.ensures.0 c.args.case.now.tables.laid_out.counted c.loop-y-test.true in
-    part-asked c.args.case.now.tables.laid_out.counted c.args.case.now.plan.laid_out hy (places-are c.args.case.now.plan.counts c.slices_of.ensures.0) level_kind (omega arith) refl
 
 pub loop-i-init : goal.loop-i-init
 loop-i-init c = none c.loop-y.invariant.accepted
@@ -58,9 +22,13 @@ loop-j-init c = none c.loop-i.invariant.accepted
 pub loop-s-init : goal.loop-s-init
 loop-s-init c = none c.loop-j.invariant.accepted
 
+pub year_of-year-requires : goal.year_of-year-requires
+year_of-year-requires c =
+    let y = year-below _ c.walk-test.true c.family_at-f.ensures c.box_of-b.ensures.0 c.args.case.now.plan.counted c.loop-y-test.true in
+    (c.requires.0, (c.requires.1, y))
+
 pub test_row-requires : goal.test_row-requires
 test_row-requires c =
-    let p = c.requires in
     let l = c.walk-test.true in
     let f = c.family_at-f.ensures in
     let b = c.box_of-b.ensures.0 in
@@ -68,10 +36,9 @@ test_row-requires c =
     let hi = c.loop-i-test.true in
     let hj = c.loop-j-test.true in
     let hs = c.loop-s-test.true in
-    let y = year-below _ l f b c.args.case.now.tables.laid_out.counted hy in
-    let parts = ready p y (places-are c.args.case.now.plan.counts c.slices_of.ensures.0) c.year_part-outputs.ensures c.year_part-reserves.ensures c.year_part-charges.ensures c.year_part-levels.ensures in
+    let made = c.year_of-year.ensures in
     let number = member-number c.walk.invariant (family-below _ l) (box-is _ l f b) c.loop-y.invariant hy c.loop-i.invariant hi c.loop-j.invariant hj c.loop-s.invariant hs in
-    (parts, (l, (inside_is _ l f b hy hi hj hs, (ap (λ (r : Family). r.equal) f, number))))
+    (sym made.1, (l, rw made.0 (inside_is _ l f b hy hi hj hs, (ap (λ (r : Family). r.equal) f, number))))
 
 pub overflow_add-row : goal.overflow_add-row
 overflow_add-row c =
@@ -84,14 +51,10 @@ overflow_add-row c =
     let few = member_below c.walk.invariant (family-below _ l) b c.loop-y.invariant hy c.loop-i.invariant hi c.loop-j.invariant hj c.loop-s.invariant hs c.box_of-b.ensures.1 in
     record { fits = omega (arith, rows_fit _ few) }
 
-pub overflow_step-s : goal.overflow_step-s
-overflow_step-s c =
-    record { fits = omega (arith, c.loop-s-test.true, c.box_of-b.ensures.1.few_slices) }
-
 pub loop-s-preserved : goal.loop-s-preserved
 loop-s-preserved c =
     let h = c.loop-s.invariant in
-    more h c.loop-s-test.true (outcome-fine _ c.test_row.ensures c.in-Fine.is) h.accepted refl
+    more h c.loop-s-test.true (outcome-fine _ (rw c.year_of-year.ensures.0 at c.test_row.ensures) c.in-Ok.is) h.accepted refl
 
 pub loop-j-preserved : goal.loop-j-preserved
 loop-j-preserved c = turn c.loop-j.invariant c.loop-j-test.true c.loop-s.invariant c.loop-s-test.false refl (omega arith)
@@ -111,15 +74,15 @@ walk-preserved c =
 
 pub returns-after-walk : goal.returns-after-walk
 returns-after-walk c =
-    c.walk.invariant.accepted ∙ answered _ _ _ c.args.case.now.tables.laid_out.counts (walked_all c.walk.invariant (families-end _ c.walk-test.false))
+    c.walk.invariant.accepted ∙ answered _ _ _ (c.args.case.now.tables.laid_out.counts ∙ sym c.args.case.now.same_counts) (walked_all c.walk.invariant (families-end _ c.walk-test.false))
 
-pub returns-in-Fails : goal.returns-in-Fails
-returns-in-Fails c =
+pub returns-in-Err : goal.returns-in-Err
+returns-in-Err c =
     let l = c.walk-test.true in
     let hy = c.loop-y-test.true in
     let hi = c.loop-i-test.true in
     let hj = c.loop-j-test.true in
     let hs = c.loop-s-test.true in
     let b = box-is _ l c.family_at-f.ensures c.box_of-b.ensures.0 in
-    let broken = outcome-fails _ c.test_row.ensures c.in-Fails.is in
-    answered _ _ _ c.args.case.now.tables.laid_out.counts (stopped c.walk.invariant (family-below _ l) b c.loop-y.invariant hy c.loop-i.invariant hi c.loop-j.invariant hj c.loop-s.invariant hs broken)
+    let broken = outcome-fails _ (rw c.year_of-year.ensures.0 at c.test_row.ensures) c.in-Err.is in
+    answered _ _ _ (c.args.case.now.tables.laid_out.counts ∙ sym c.args.case.now.same_counts) (stopped c.walk.invariant (family-below _ l) b c.loop-y.invariant hy c.loop-i.invariant hi c.loop-j.invariant hj c.loop-s.invariant hs broken)
