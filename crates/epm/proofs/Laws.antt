@@ -27,14 +27,10 @@ use Rattle.sums.proofs.Spans.{or_else-fine}
 use Rattle.model.specs.Rival.{Binds}
 use Rattle.model.proofs.Sound.{passed}
 use Rattle.model.proofs.Demand.{demand3}
-use Rattle.data_tests.proofs.Passed.{outcome-fine, refused-by, passed-by, in_two, passes}
+use Rattle.data_tests.proofs.Passed.{laid-counts, outcome-fine, refused-by, passed-by, in_two, passes}
 use Rattle.plan_tests.specs.Tests.{plan_test}
 use Rattle.boards.specs.Boards.{after, board_after_check}
 use Rattle.epm.specs.Answers.{rows_and_cost}
-
--- of data laid out, the counts
-pub counts-laid : (t : Tables) {l : List ℕ} → t.list.now ≡ l → (read l).counts ≡ t.counts
-counts-laid t e = rw (← e) t.laid_out.counts
 
 -- an answer as the promises have it: document 01's number and values, and the case of the enum with them
 
@@ -69,7 +65,7 @@ module _ (D : Data) (N : ℕ) (x : Index → ℕ) where
 
 -- of data laid out, the number of columns
 pub columns-laid : (t : Tables) {l : List ℕ} {n : ℕ} → t.list.now ≡ l → n ≡ count (column_boxes t.counts) → n ≡ count (column_boxes (read l).counts)
-columns-laid t e q = q ∙ ap (λ (d : Counts). count (column_boxes d)) (sym (counts-laid t e))
+columns-laid t e q = q ∙ ap (λ (d : Counts). count (column_boxes d)) (sym (laid-counts t e))
 
 -- check, stage by stage
 

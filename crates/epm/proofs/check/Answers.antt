@@ -1,7 +1,7 @@
 use mathlib.Core.Path.{◌∙◌}
 use borrow.Author.Rules.{rules}
-use Rattle.data_tests.proofs.Passed.{sound-head, passes}
-use Rattle.epm.proofs.Laws.{answered, counts-laid, columns-laid, data-refused, plan-refused, plan-passed, plan-whole}
+use Rattle.data_tests.proofs.Passed.{sound-head, passes, laid-counts}
+use Rattle.epm.proofs.Laws.{answered, columns-laid, data-refused, plan-refused, plan-passed, plan-whole}
 use Rattle.epm.proofs.check.Goals as goal
 
 pub returns-in_err-test_data : goal.returns-in_err-test_data
@@ -27,4 +27,4 @@ returns c =
     let plan = c.lay_out_plan-plan.ensures in
     let columns = columns-laid c.lay_out-tables.result tables c.column_count.ensures in
     answered (plan-passed _ _ _ sound columns c.test_plan.ensures c.in_ok-test_plan.was
-    (c.price.ensures ∙ rw (plan.0, plan.1, ← counts-laid c.lay_out-tables.result tables, tables)))
+    (c.price.ensures ∙ rw (plan.0, plan.1, ← laid-counts c.lay_out-tables.result tables, tables)))
