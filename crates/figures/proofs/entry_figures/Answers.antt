@@ -1,12 +1,13 @@
 use Rattle.sums.specs.Index.{index_of}
 use Rattle.model.specs.Data.{table_boxes}
+use Rattle.data_tests.proofs.Passed.{laid-counts}
 use Rattle.tables.proofs.Members.{entry-inside}
 use Rattle.figures.proofs.Laws.{counted-alike, entry_in, entry-told}
 use Rattle.figures.proofs.entry_figures.Goals as goal
 
 pub range_at-range-requires : goal.range_at-range-requires
 range_at-range-requires c =
-    let counts = rw c.lay_out-tables.ensures at c.lay_out-tables.result.laid_out.counts in
+    let counts = laid-counts c.lay_out-tables.result c.lay_out-tables.ensures in
     let inside = entry-inside _ (counted-alike table_boxes (index_of c.args.p) counts c.requires.1.0) in
     (inside.0, inside.1.first)
 

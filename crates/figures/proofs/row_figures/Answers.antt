@@ -1,7 +1,7 @@
 use mathlib.Core.Path.{sym, ap, ◌∙◌}
 use Rattle.sums.specs.Index.{index_of}
 use Rattle.model.specs.Families.{row_boxes}
-use Rattle.data_tests.proofs.Passed.{sound-head, sound-entries}
+use Rattle.data_tests.proofs.Passed.{sound-head, sound-entries, laid-counts}
 use Rattle.tables.specs.declared.lists.Case.{Case}
 use Rattle.tables.proofs.Members.{row_inside, year-inside}
 use Rattle.figures.proofs.Laws.{counted-alike, row_told}
@@ -12,19 +12,19 @@ lay_out-tables-requires c = sound-head _ c.requires.0
 
 pub year_of-year-requires : goal.year_of-year-requires
 year_of-year-requires c =
-    let counts = rw c.lay_out-tables.ensures at c.lay_out-tables.result.laid_out.counts in
+    let counts = laid-counts c.lay_out-tables.result c.lay_out-tables.ensures in
     let own = counted-alike row_boxes (index_of c.args.p) (counts ∙ sym c.lay_out_plan-plan.ensures.1) c.requires.1.1 in
     (rw c.lay_out-tables.ensures (sound-entries _ c.requires.0), (c.fill_energies.ensures, year-inside c.lay_out_plan-plan.result.counted (row_inside c.lay_out_plan-plan.result.counts own).1))
 
 pub row_sides-requires : goal.row_sides-requires
 row_sides-requires c =
-    let counts = rw c.lay_out-tables.ensures at c.lay_out-tables.result.laid_out.counts in
+    let counts = laid-counts c.lay_out-tables.result c.lay_out-tables.ensures in
     let same = ap (λ (k : Case). k.plan.counts) c.year_of-year.ensures.0 in
     let own = counted-alike row_boxes (index_of c.args.p) (counts ∙ sym c.lay_out_plan-plan.ensures.1 ∙ sym same) c.requires.1.1 in
     (sym c.year_of-year.ensures.1, row_inside _ own)
 
 pub returns : goal.returns
 returns c =
-    let counts = rw c.lay_out-tables.ensures at c.lay_out-tables.result.laid_out.counts in
+    let counts = laid-counts c.lay_out-tables.result c.lay_out-tables.ensures in
     row_told c.args.«data».now c.args.plan.now c.args.scale (index_of c.args.p) (counts ∙ sym c.lay_out_plan-plan.ensures.1)
     (rw (c.year_of-year.ensures.0, c.from.ensures, c.lay_out-tables.ensures, c.lay_out_plan-plan.ensures.0) at c.row_sides.ensures)
