@@ -78,3 +78,6 @@ later-hour t e h = sym (after_first t e) ∙ ap not h
 pub some-before : {b : Bool} (s n : ℕ) → b ≡ eqb (s % n) 0 → b ≡ false → 1 ≤ s
 some-before s n e h =
     ⊎_elim (λ (l : s ≤ 0). let z : s ≡ 0 = omega arith in absurd (eqb-false (s % n) 0 (sym e ∙ h) (rw z (zero-mod n)))) (λ (l : 0 < s). l) (le-or-lt s 0)
+
+-- for a `search` of a row's two sums: the sums of exact numbers
+pub ruleset exact_sums = (plus-cap, both-cap)
