@@ -17,10 +17,10 @@ use tables::lists::TestedTables;
 use tables::sets::shape_of;
 
 // Refusals 9 to 13 beside a cost that check answered, or the certificate.
-pub fn issue(
-    data: &[u32],
+pub fn issue<'a>(
+    data: &'a [u32],
     scale: u32,
-    multipliers: &[i64],
+    multipliers: &'a [i64],
     cost: u64,
 ) -> Result<Certificate, Refusal>
     requires { (data_fault «data».now ≡ fine) × (cost ≤ limit) }
@@ -28,9 +28,10 @@ pub fn issue(
 {
     let tables = lay_out(data);
     test_multipliers(multipliers, shape_of(tables.counts))?; // 9 or 10
+    let multipliers = lay_out_multipliers(multipliers, tables.counts);
     let pricing = Pricing {
         tested: TestedTables { tables: &tables },
-        multipliers: lay_out_multipliers(multipliers, tables.counts),
+        multipliers,
     };
     test_columns(&pricing)?; // 11 or 12
     gap_of(&pricing, u64::from(scale), cost)

@@ -28,7 +28,7 @@ fn price(case: &Case, scale: u32) -> Result<u64, Refusal>
 {
     let mut energy = [capped::zero(); ENERGY_COUNT];
     fill_energies(case, &mut energy);
-    test_rows(case, &energy, u64::from(scale))?;
+    test_rows(&*case, &energy, u64::from(scale))?;
     cost_of(case).ok_or(Refusal::CostOffScale)
 }
 

@@ -12,7 +12,7 @@ ghost use Rattle.hour_costs.specs.Costs.{Hours, slices_cost, hourly_cost, hours_
 ghost use Rattle.tables.specs.Lists.{data_of, entry_of};
 
 use capped::Sum;
-use tables::lists::{Case, Plan, Tables, wide};
+use tables::lists::{Case, Plan, Tables};
 use tables::names::{DURATION, GEN, RESERVE, SPINSHORT, SURPLUS, UNMET};
 use tables::sets::{inside_of, slices_of};
 use tables::starts::{column_box, column_set};
@@ -40,7 +40,7 @@ fn weighted_hours(tables: &Tables, part: &[u32]) -> Sum
 {
     let mut total = capped::zero();
     for (s, entry) in part.iter().enumerate() {
-        total = capped::add_product(total, tables.by_slice(DURATION, s), wide(*entry));
+        total = capped::add_product(total, tables.by_slice(DURATION, s), u64::from(*entry));
     }
     total
 }

@@ -16,7 +16,10 @@ pub fn limits_into(tables: &Tables, y: usize, z: usize, q: usize) -> u64
     requires { (y < tables.now.counts.years) × ((z < tables.now.counts.zones) × (q < tables.now.counts.seasons)) }
     ensures { (result ≡ sum tables.now.counts.zones (λ u. on (not (eqb u z)) (tl (data_of tables.now) y u z q))) × (result ≤ most_into) }
 {
-    exact_total(tables.counts.zones, |u| where_other(u, z, tables.by_link_season(TL, y, u, z, q)))
+    exact_total(
+        tables.counts.zones,
+        |u| where_other(u, z, tables.by_link_season(TL, y, u, z, q)),
+    )
 }
 
 // A limit of a link between two zones, 0 within one.
@@ -31,7 +34,10 @@ pub fn lowest_limits_into(tables: &Tables, y: usize, z: usize) -> u64
     requires { (y < tables.now.counts.years) × (z < tables.now.counts.zones) }
     ensures { (result ≡ sum tables.now.counts.zones (λ u. on (not (eqb u z)) (least tables.now.counts.seasons (λ q. tl (data_of tables.now) y u z q)))) × (result ≤ most_into) }
 {
-    exact_total(tables.counts.zones, |u| where_other(u, z, lowest_limit(tables, y, u, z)))
+    exact_total(
+        tables.counts.zones,
+        |u| where_other(u, z, lowest_limit(tables, y, u, z)),
+    )
 }
 
 // The lowest of TL[u,z] over the seasons, of which there is at least one.

@@ -26,17 +26,3 @@ pub fn first_hour(c: Counts, s: usize) -> bool
 {
     s % c.hours == 0
 }
-
-// A place as the data list holds it.
-pub fn long(n: usize) -> u64
-    ensures { result ≡ n }
-{
-    n as u64
-}
-
-// Both of two tests, as one flag: a loop that uses it has one way through.
-pub fn both(a: bool, b: bool) -> bool
-    ensures { result ≡ (a && b) }
-{
-    a & b
-}

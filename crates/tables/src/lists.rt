@@ -25,12 +25,6 @@ pub fn number_at(list: &[u32], i: usize) -> u64
     u64::from(list[i])
 }
 
-pub fn wide(x: u32) -> u64
-    ensures { (result ≡ x) × (result ≤ most32) }
-{
-    x as u64
-}
-
 // The data list, laid out: it passed refusals 1 and 2.
 #[derive(Drop)]
 pub struct Tables<'a> {

@@ -10,7 +10,7 @@ pub loop-s-preserved : goal.loop-s-preserved
 loop-s-preserved c =
     let h = c.loop-s.invariant in
     summed-more h c.loop-s-test.true
-    (c.add_product-total.ensures ∙ rw (h.is, c.by_slice.ensures.0, c.wide.ensures.0, plus-cap))
+    (c.add_product-total.ensures ∙ rw (h.is, c.by_slice.ensures.0, c.from.ensures, plus-cap))
 
 pub returns : goal.returns
 returns c = rw (← c.requires) (summed-all c.loop-s.invariant c.loop-s-test.false)

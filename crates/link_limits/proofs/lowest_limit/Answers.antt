@@ -8,7 +8,7 @@ loop-q-init c = lowest-one (search rules) c.by_link_season-lowest.ensures.0 c.by
 
 pub loop-q-preserved : goal.loop-q-preserved
 loop-q-preserved c =
-    lowest-more c.loop-q.invariant c.loop-q-test.true c.by_link_season.ensures.0 c.min-lowest.ensures
+    lowest-more c.loop-q.invariant c.loop-q-test.true c.by_link_season.ensures.0 (search rules)
 
 pub returns : goal.returns
 returns c = (lowest-all c.loop-q.invariant c.loop-q-test.false, c.loop-q.invariant.few)
