@@ -20,11 +20,11 @@ use Rattle.model.specs.Calls.{certificate, outcome}
 use Rattle.sums.proofs.Spans.{or_else-fine}
 use Rattle.model.specs.Families.{row_boxes, shape_of}
 use Rattle.model.proofs.Sound.{passed}
-use Rattle.data_tests.proofs.Passed.{refused-by, passed-by, in_two, passes}
+use Rattle.data_tests.proofs.Passed.{laid-counts, refused-by, passed-by, in_two, passes}
 
 -- the counts of the sizes are those of the data
 pub counts-laid : (t : Tables) {l : List ℕ} {shape : Shape} → t.list.now ≡ l → shape ≡ shape_of t.counts → (read l).counts ≡ shape.counts
-counts-laid t e q = rw (← e) t.laid_out.counts ∙ sym (shape-counts q)
+counts-laid t e q = laid-counts t e ∙ sym (shape-counts q)
 
 module _ (D : Data) (ms : List ℤ) (N cost : ℕ) where
   abbrev multiplier_tests : Fault Refusal

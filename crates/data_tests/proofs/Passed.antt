@@ -19,6 +19,7 @@ use Rattle.model.specs.Data.{Data, within, ◌to◌, most_counts, counts_of, dat
 use Rattle.model.specs.Tests.{unless, head_fault, count_fault, counts_fault, length_fault, entries_fault, plant_storage_fault, storage_fault, data_fault}
 use Rattle.model.proofs.Sound.{count-range, passed}
 use Rattle.model.specs.Columns.{column_sets, column_boxes, column_kind_count}
+use Rattle.tables.specs.declared.lists.Tables.{Tables}
 use Rattle.tables.specs.Layout.{Counted, TablesAt, ColumnsAt, start_from, table_sets}
 use Rattle.tables.proofs.Laws.{tables_end, columns-end as columns-are}
 
@@ -188,3 +189,7 @@ columns-end l {c} e q = q ∙ columns-are c ∙ ap (λ (d : Counts). count (colu
 pub plan-columns : {plan columns-at : List ℕ} {c : Counts} (l : List ℕ) → c ≡ counts_of l → length plan ≡ count (column_boxes (read l).counts)
     → ((k : ℕ) → k ≤ column_kind_count → get_or columns-at k 0 ≡ start_from c column_sets 0 k) → ColumnsAt plan columns-at c
 plan-columns l e w s = record { whole = w ∙ ap (λ (d : Counts). count (column_boxes d)) (counts-read l e); starts = s }
+
+-- data laid out have the counts of their list
+pub laid-counts : (t : Tables) {l : List ℕ} → t.list.now ≡ l → (read l).counts ≡ t.counts
+laid-counts t e = rw (← e) t.laid_out.counts

@@ -2,17 +2,26 @@
 use Rattle.model.specs.declared.Certificate.{Certificate}
 use Rattle.std.specs.Prelude.{Result, Ok, Err, ok_or}
 use mathlib.Core.Path.{◌≡◌, refl, sym, ◌∙◌, ap}
-use Prim.Native.Nat.{ℕ, ◌-◌, ◌≤◌}
+use Prim.Native.Nat.{ℕ, ◌-◌, ◌≤◌, ◌<◌}
 use native.Mathlib.Omega.{arith}
 use borrow.Author.Tests.{leb-true, eqb-true, le-leb, lt-leb}
 use lib.IntN.{ℤ}
 use lib.ListN.{length}
 use mathlib.Core.List.{List}
+<<<<<<< HEAD
 use Rattle.capped.specs.Cap.{Sum, limit, cap}
 use Rattle.capped.proofs.Laws.{Capped, capped, low, high}
+=======
+use lib.Dec.{leb}
+use mathlib.Core.Logic.{⊎_elim}
+use Rattle.capped.proofs.Laws.{le-or-lt, cap-low, cap-high}
+use Rattle.capped.specs.Cap.{limit, cap, Sum}
+>>>>>>> ca9a001a385708168ea7a14c72197c81cef78fc1
 use Rattle.sums.specs.Span.{Fault, fine, fault, or_else}
 use Rattle.sums.specs.Index.{Index, start, count}
+use Rattle.model.specs.declared.Counts.{Counts}
 use Rattle.model.specs.declared.Refusal.{Refusal}
+use Rattle.tables.specs.declared.lists.Tables.{Tables}
 use Rattle.model.specs.declared.Refusal.TheVariants.{CostOffScale}
 use Rattle.model.specs.Data.{Data, read}
 use Rattle.model.specs.Columns.{column_boxes, entries}
@@ -23,10 +32,14 @@ use Rattle.sums.proofs.Spans.{or_else-fine}
 use Rattle.model.specs.Rival.{Binds}
 use Rattle.model.proofs.Sound.{passed}
 use Rattle.model.proofs.Demand.{demand3}
+<<<<<<< HEAD
 use Rattle.tables.specs.declared.lists.Tables.{Tables}
 use Rattle.tables.specs.declared.lists.Plan.{Plan}
 use Rattle.tables.specs.Lists.{data_of, entry_of}
 use Rattle.data_tests.proofs.Passed.{outcome-fine, refused-by, passed-by, in_two, passes}
+=======
+use Rattle.data_tests.proofs.Passed.{laid-counts, outcome-fine, refused-by, passed-by, in_two, passes}
+>>>>>>> ca9a001a385708168ea7a14c72197c81cef78fc1
 use Rattle.plan_tests.specs.Tests.{plan_test}
 use Rattle.boards.specs.Boards.{after, board_after_check}
 use Rattle.epm.specs.Answers.{rows_and_cost}
@@ -41,19 +54,24 @@ pub certified : (l : List ℕ) (N : ℕ) (plan : List ℕ) (ms : List ℤ) {r : 
     → (certificate_code r ≡ certificate_code (certify l N plan ms)) × ((r ≡ certify l N plan ms) × Binds l N r)
 certified l N plan ms e = (ap certificate_code e, (e, rw e (demand3 l N plan ms)))
 
-pub refused-first : (f g : Fault Refusal) (c : ℕ) {o : Result (Unit {0}) Refusal} {r : Refusal} → o ≡ outcome f → o ≡ Err r → Err r ≡ answer (or_else f g) c
-refused-first f g c e q = rw (refused-by f g e q)
+pub refused-first : (f g : Fault Refusal) (c : ℕ) {o : Result (Unit {0}) Refusal} {r : Refusal} {v : Result ℕ Refusal} → o ≡ outcome f → o ≡ Err r → v ≡ Err r → v ≡ answer (or_else f g) c
+refused-first f g c e q n = n ∙ rw (refused-by f g e q)
 
 pub passed_first : (f g : Fault Refusal) (c : ℕ) {a : Result ℕ Refusal} → f ≡ fine → a ≡ answer g c → a ≡ answer (or_else f g) c
 passed_first f g c e q = q ∙ rw (passed-by f g e)
 
--- the rows passed: what the cost comes to decides
+-- the cost, or refusal 8 where it is above the limit
+cost-capped : (n : ℕ) → ok_or (cap n) CostOffScale ≡ answer (unless (leb n limit) CostOffScale) n
+unfolding unless
+cost-capped n =
+    ⊎_elim (λ (h : n ≤ limit). rw (cap-low n h, le-leb n limit h) refl) (λ (h : limit < n). rw (cap-high n h, lt-leb n limit h) refl) (le-or-lt n limit)
 
 module _ (D : Data) (N : ℕ) (x : Index → ℕ) where
-  pub rows-refused : {o : Result (Unit {0}) Refusal} {r : Refusal} → o ≡ outcome (rows_fault D N x) → o ≡ Err r → Err r ≡ rows_and_cost D N x
+  pub rows-refused : {o : Result (Unit {0}) Refusal} {r : Refusal} {v : Result ℕ Refusal} → o ≡ outcome (rows_fault D N x) → o ≡ Err r → v ≡ Err r → v ≡ rows_and_cost D N x
   unfolding rows_and_cost
-  rows-refused e q = refused-first (rows_fault D N x) (cost_fault D x) (cost D x) e q
+  rows-refused e q n = refused-first (rows_fault D N x) (cost_fault D x) (cost D x) e q n
 
+<<<<<<< HEAD
   pub rows-passed : {o : Result (Unit {0}) Refusal} → o ≡ outcome (rows_fault D N x) → o ≡ Ok tt → ok_or (cap (cost D x)) CostOffScale ≡ rows_and_cost D N x
   unfolding rows_and_cost cost_fault unless
   rows-passed e q = passed_first (rows_fault D N x) (cost_fault D x) (cost D x) (outcome-fine _ (sym e ∙ q)) (go (capped (cost D x)))
@@ -61,22 +79,31 @@ module _ (D : Data) (N : ℕ) (x : Index → ℕ) where
       go : {s : Sum} → Capped (cost D x) s → ok_or s CostOffScale ≡ answer (cost_fault D x) (cost D x)
       go (low h) = rw (le-leb (cost D x) limit h)
       go (high h) = rw (lt-leb (cost D x) limit h)
+=======
+  pub cost-answered : {o : Result (Unit {0}) Refusal} {s : Sum} {v : Result ℕ Refusal} → o ≡ outcome (rows_fault D N x) → o ≡ Ok tt → s ≡ cap (cost D x) → v ≡ ok_or s CostOffScale → v ≡ rows_and_cost D N x
+  unfolding rows_and_cost cost_fault
+  cost-answered e q s v = passed_first (rows_fault D N x) (cost_fault D x) (cost D x) (passes e q) (v ∙ rw s (cost-capped (cost D x)))
+
+-- of data laid out, the number of columns
+pub columns-laid : (t : Tables) {l : List ℕ} {n : ℕ} → t.list.now ≡ l → n ≡ count (column_boxes t.counts) → n ≡ count (column_boxes (read l).counts)
+columns-laid t e q = q ∙ ap (λ (d : Counts). count (column_boxes d)) (sym (laid-counts t e))
+>>>>>>> ca9a001a385708168ea7a14c72197c81cef78fc1
 
 -- check, stage by stage
 
 module _ (l : List ℕ) (N : ℕ) (plan : List ℕ) where
-  pub data-refused : {o : Result (Unit {0}) Refusal} {r : Refusal} → o ≡ outcome (data_fault l) → o ≡ Err r → Err r ≡ check l N plan
+  pub data-refused : {o : Result (Unit {0}) Refusal} {r : Refusal} {v : Result ℕ Refusal} → o ≡ outcome (data_fault l) → o ≡ Err r → v ≡ Err r → v ≡ check l N plan
   unfolding check check_fault
-  data-refused e q = refused-first (data_fault l) (plan_fault (read l) N plan) (cost_of l plan) e q
+  data-refused e q n = refused-first (data_fault l) (plan_fault (read l) N plan) (cost_of l plan) e q n
 
   -- the columns' number is where the last kind of column ends
-  pub plan-refused : {o : Result (Unit {0}) Refusal} {r : Refusal} {n : ℕ} → data_fault l ≡ fine → n ≡ count (column_boxes (read l).counts) → o ≡ plan_test N (length plan) n → o ≡ Err r
-      → Err r ≡ check l N plan
+  pub plan-refused : {o : Result (Unit {0}) Refusal} {r : Refusal} {n : ℕ} {v : Result ℕ Refusal} → data_fault l ≡ fine → n ≡ count (column_boxes (read l).counts) → o ≡ plan_test N (length plan) n → o ≡ Err r
+      → v ≡ Err r → v ≡ check l N plan
   unfolding check check_fault plan_fault plan_test plan_length_fault
-  plan-refused {o} {r} {n} d e t q =
+  plan-refused d e t q w =
       passed_first (data_fault l) _ _ d
       (rw (← in_two (scale_fault N) (plan_length_fault (read l) plan) (or_else (rows_fault (read l) N (entries (read l) plan)) (cost_fault (read l) (entries (read l) plan))))
-      (refused-first (or_else (scale_fault N) (plan_length_fault (read l) plan)) _ _ (rw (← e) t) q))
+      (refused-first (or_else (scale_fault N) (plan_length_fault (read l) plan)) _ _ (rw (← e) t) q w))
 
   pub plan-passed : {o : Result (Unit {0}) Refusal} {a : Result ℕ Refusal} {n : ℕ} → data_fault l ≡ fine → n ≡ count (column_boxes (read l).counts) → o ≡ plan_test N (length plan) n → o ≡ Ok tt
       → a ≡ rows_and_cost (read l) N (entries (read l) plan) → a ≡ check l N plan
@@ -98,9 +125,9 @@ laid-entries t p N e q r = rw (← e, ← q, r, ← t.laid_out.counts) refl
 -- certify after check
 
 module _ (l : List ℕ) (N : ℕ) (plan : List ℕ) (ms : List ℤ) where
-  pub certify-refused : {r : Refusal} → check l N plan ≡ Err r → Err r ≡ certify l N plan ms
+  pub certify-refused : {r : Refusal} {v : Result Certificate Refusal} → check l N plan ≡ Err r → v ≡ Err r → v ≡ certify l N plan ms
   unfolding check certify certify_fault or_else
-  certify-refused {r} e = go (check_fault l N plan) e
+  certify-refused {r} e n = n ∙ go (check_fault l N plan) e
     where
       go : (f : Fault Refusal) → answer f (cost_of l plan) ≡ Err r → Err r ≡ certificate (or_else f (dual_fault (read l) ms N)) (cost_of l plan) (gap_of l N plan ms)
       go fine p = let z : ◌≡◌ {A = ℕ} 0 1 = cc in absurd (omega arith)

@@ -2,13 +2,13 @@
 use mathlib.Core.Path.{◌≡◌, refl, ap, ◌∙◌, subst}
 use mathlib.Core.Bool.{Bool, true, false, ◌&&◌}
 use mathlib.Core.List.{List}
-use Prim.Native.Nat.{ℕ, ◌+◌, ◌*◌, ◌-◌, ◌≤◌, ◌<◌}
+use Prim.Native.Nat.{ℕ, ◌+◌, ◌-◌, ◌<◌}
 use native.Mathlib.Omega.{arith}
 use lib.Dec.{leb}
 use lib.IntN.{ℤ}
 use lib.ListN.{length, get_or}
 use borrow.Author.Tests.{leb-true, leb-false}
-use Rattle.compared.specs.declared.Balance.TheVariants.{Is}
+use Rattle.std.specs.Prelude.{Ok}
 use Rattle.capped.specs.Cap.{limit, cap, Sum}
 use Rattle.capped.proofs.Laws.{both-cap}
 use Rattle.compared.proofs.Laws.{le-difference}
@@ -20,24 +20,19 @@ use Rattle.model.specs.declared.Counts.{Counts}
 use Rattle.model.specs.declared.Refusal.TheVariants.{ColumnOffScale, Underpriced}
 use Rattle.model.specs.Data as spec
 use Rattle.model.specs.Data.{Data, table_boxes, counts_of, place_of, data_length, read}
-use Rattle.model.specs.Counts.{slices_of, [ygs]}
-use Rattle.model.specs.Columns.{column_sets, column_kind_count, column_number, entries}
-use Rattle.model.specs.Families.{row_boxes}
+use Rattle.model.specs.Columns.{column_number, entries}
 use Rattle.model.specs.Prices.{price}
 use Rattle.model.specs.Tests.{unless, priced⁺, priced⁻, column_fault}
 use Rattle.model.proofs.Sound.{both}
 use Rattle.ranges.specs.declared.Range.{Range}
-use Rattle.tables.specs.Layout.{Counted, TablesAt, ColumnsAt, plan_entry}
-use Rattle.tables.proofs.Members.{row_inside, year-inside}
-use Rattle.parts.proofs.Parts.{places-are, part-asked}
+use Rattle.tables.specs.Layout.{TablesAt, plan_entry}
 use Rattle.ranges.specs.Ranges.{ranged, range_of}
 use Rattle.row_sums.specs.declared.Sides.{Sides}
 use Rattle.row_sums.specs.Ready.{sides_of}
 use Rattle.column_terms.specs.declared.Pair.{Pair}
 use Rattle.column_terms.specs.Pairs.{priced_pair}
-use Rattle.figures.specs.declared.RowFigures.{RowFigures}
 use Rattle.figures.specs.declared.ColumnFigures.{ColumnFigures}
-use Rattle.figures.specs.Figures.{row_figures, column_figures, entry_figures, told_sides, told_pair}
+use Rattle.figures.specs.Figures.{row_figures, column_figures, entry_figures, told_pair}
 
 -- Members of the index sets
 
@@ -55,18 +50,12 @@ entry_in {l} n m p = omega (arith, entry-below (read l).counts m, n.whole, ap da
 pub counted-alike : (boxes : Counts → List Box) (r : Index) {c d : Counts} → d ≡ c → Member (boxes d) r → Member (boxes c) r
 counted-alike boxes r e m = subst (λ (d : Counts). Member (boxes d) r) e m
 
--- of a row's year, the part of a kind of column by year, plant and slice is in the plan
-pub row-part : {plan columns-at : List ℕ} {c : Counts} {k y i j s n : ℕ} → Counted c → ColumnsAt plan columns-at c → Member (row_boxes c) (index k y i j s) → n ≡ slices_of c
-    → (t : ℕ) → t < column_kind_count → get_or column_sets t 0 ≡ [ygs]
-    → (get_or columns-at t 0 + (y + 1) * (c.plants * n) ≤ length plan) × ((c.plants * n ≤ 12288) × (y < 10))
-row-part {c = c} few at m e t ht q = part-asked few at (year-inside few (row_inside c m).1) (places-are c e) t ht q
-
 -- The figures
 
-pub row_told : (l plan : List ℕ) (N : ℕ) (r : Index) {c : Counts} {s : Sides} {f : RowFigures} → c ≡ counts_of l
-    → s ≡ sides_of (read l) N (plan_entry c plan) r → f ≡ told_sides s → f ≡ row_figures (read l) N (entries (read l) plan) r
-unfolding read sides_of told_sides row_figures
-row_told l plan N r e q h = h ∙ rw (q, e)
+pub row_told : (l plan : List ℕ) (N : ℕ) (r : Index) {c : Counts} {s : Sides} → (read l).counts ≡ c → s ≡ sides_of (read l) N (plan_entry c plan) r
+    → record { above = s.above; below = s.below } ≡ row_figures (read l) N (entries (read l) plan) r
+unfolding sides_of row_figures
+row_told l plan N r e q = rw (q, ← e) refl
 
 pub column-told : (D : Data) (ms : List ℤ) (x : Index) {v : Pair} {charged : Sum} {f : ColumnFigures} → v ≡ priced_pair D ms x → charged ≡ cap (price D x)
     → f ≡ told_pair v charged → f ≡ column_figures D ms x
@@ -81,7 +70,7 @@ underpriced true false m n e = (refl, refl)
 underpriced false b m n e = let z : ◌≡◌ {A = ℕ} 0 1 = cc in absurd (omega arith)
 
 pub short-is : (D : Data) (ms : List ℤ) (i : Index) {n : ℕ} {f : ColumnFigures} → f ≡ column_figures D ms i → column_fault D ms i ≡ fault (Underpriced n)
-    → f.short ≡ Is (priced⁺ D ms i - (price D i + priced⁻ D ms i))
+    → f.short ≡ Ok (priced⁺ D ms i - (price D i + priced⁻ D ms i))
 unfolding column_figures column_fault
 short-is D ms i q e =
     let u = priced⁺ D ms i in

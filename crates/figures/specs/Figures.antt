@@ -1,13 +1,12 @@
 -- The figures of a row, a column and an entry, by the model's definitions. A sum above the limit has no figure.
 use Rattle.std.specs.Prelude.{List, ℕ, ◌+◌, ℤ}
 use Rattle.capped.specs.Cap.{cap, both, Sum}
-use Rattle.compared.specs.Compared.{told, net_of}
+use Rattle.compared.specs.Compared.{net_of}
 use Rattle.sums.specs.Index.{Index, index}
 use Rattle.model.specs.Data.{Data}
 use Rattle.model.specs.Prices.{price}
 use Rattle.model.specs.Tests.{above, below, priced⁺, priced⁻}
 use Rattle.ranges.specs.Ranges.{range_of}
-use Rattle.row_sums.specs.declared.Sides.{Sides}
 use Rattle.column_terms.specs.declared.Pair.{Pair}
 use Rattle.figures.specs.declared.RowFigures.{RowFigures}
 use Rattle.figures.specs.declared.ColumnFigures.{ColumnFigures}
@@ -15,14 +14,14 @@ use Rattle.figures.specs.declared.EntryFigures.{EntryFigures}
 
 -- a row's two sums, of a plan's entries x at scale N
 unfoldable pub row_figures : Data → ℕ → (Index → ℕ) → Index → RowFigures
-row_figures D N x r = record { above = told (cap (above D N x r)); below = told (cap (below D N x r)) }
+row_figures D N x r = record { above = cap (above D N x r); below = cap (below D N x r) }
 
 -- a column's two sums under the multipliers, its price, and up − (price + down)
 unfoldable pub column_figures : Data → List ℤ → Index → ColumnFigures
 column_figures D ms c = record {
-  up = told (cap (priced⁺ D ms c));
-  down = told (cap (priced⁻ D ms c));
-  price = told (cap (price D c));
+  up = cap (priced⁺ D ms c);
+  down = cap (priced⁻ D ms c);
+  price = cap (price D c);
   short = net_of (cap (priced⁺ D ms c)) (cap 0) (cap (price D c + priced⁻ D ms c));
 }
 
@@ -30,9 +29,6 @@ column_figures D ms c = record {
 unfoldable pub entry_figures : Data → Index → EntryFigures
 entry_figures D (index t y i j s) = record { least = (range_of t D y i j s).least; most = (range_of t D y i j s).most; entry = D.entry t y i j s }
 
--- the same of sums as the code has them
-unfoldable pub told_sides : Sides → RowFigures
-told_sides s = record { above = told s.above; below = told s.below }
-
+-- the same of a column's sums and price as the code has them
 unfoldable pub told_pair : Pair → Sum → ColumnFigures
-told_pair s p = record { up = told s.up; down = told s.down; price = told p; short = net_of s.up (cap 0) (both p s.down) }
+told_pair s p = record { up = s.up; down = s.down; price = p; short = net_of s.up (cap 0) (both p s.down) }
