@@ -2,21 +2,16 @@
 use Rattle.model.specs.declared.Certificate.{Certificate}
 use Rattle.std.specs.Prelude.{Result, Ok, Err, ok_or}
 use mathlib.Core.Path.{◌≡◌, refl, sym, ◌∙◌, ap}
-use Prim.Native.Nat.{ℕ, ◌-◌, ◌≤◌, ◌<◌}
+use Prim.Native.Nat.{ℕ, ◌≤◌, ◌<◌}
 use native.Mathlib.Omega.{arith}
 use borrow.Author.Tests.{leb-true, eqb-true, le-leb, lt-leb}
 use lib.IntN.{ℤ}
 use lib.ListN.{length}
 use mathlib.Core.List.{List}
-<<<<<<< HEAD
-use Rattle.capped.specs.Cap.{Sum, limit, cap}
-use Rattle.capped.proofs.Laws.{Capped, capped, low, high}
-=======
 use lib.Dec.{leb}
 use mathlib.Core.Logic.{⊎_elim}
 use Rattle.capped.proofs.Laws.{le-or-lt, cap-low, cap-high}
 use Rattle.capped.specs.Cap.{limit, cap, Sum}
->>>>>>> ca9a001a385708168ea7a14c72197c81cef78fc1
 use Rattle.sums.specs.Span.{Fault, fine, fault, or_else}
 use Rattle.sums.specs.Index.{Index, start, count}
 use Rattle.model.specs.declared.Counts.{Counts}
@@ -32,14 +27,7 @@ use Rattle.sums.proofs.Spans.{or_else-fine}
 use Rattle.model.specs.Rival.{Binds}
 use Rattle.model.proofs.Sound.{passed}
 use Rattle.model.proofs.Demand.{demand3}
-<<<<<<< HEAD
-use Rattle.tables.specs.declared.lists.Tables.{Tables}
-use Rattle.tables.specs.declared.lists.Plan.{Plan}
-use Rattle.tables.specs.Lists.{data_of, entry_of}
-use Rattle.data_tests.proofs.Passed.{outcome-fine, refused-by, passed-by, in_two, passes}
-=======
 use Rattle.data_tests.proofs.Passed.{laid-counts, outcome-fine, refused-by, passed-by, in_two, passes}
->>>>>>> ca9a001a385708168ea7a14c72197c81cef78fc1
 use Rattle.plan_tests.specs.Tests.{plan_test}
 use Rattle.boards.specs.Boards.{after, board_after_check}
 use Rattle.epm.specs.Answers.{rows_and_cost}
@@ -71,15 +59,6 @@ module _ (D : Data) (N : ℕ) (x : Index → ℕ) where
   unfolding rows_and_cost
   rows-refused e q n = refused-first (rows_fault D N x) (cost_fault D x) (cost D x) e q n
 
-<<<<<<< HEAD
-  pub rows-passed : {o : Result (Unit {0}) Refusal} → o ≡ outcome (rows_fault D N x) → o ≡ Ok tt → ok_or (cap (cost D x)) CostOffScale ≡ rows_and_cost D N x
-  unfolding rows_and_cost cost_fault unless
-  rows-passed e q = passed_first (rows_fault D N x) (cost_fault D x) (cost D x) (outcome-fine _ (sym e ∙ q)) (go (capped (cost D x)))
-    where
-      go : {s : Sum} → Capped (cost D x) s → ok_or s CostOffScale ≡ answer (cost_fault D x) (cost D x)
-      go (low h) = rw (le-leb (cost D x) limit h)
-      go (high h) = rw (lt-leb (cost D x) limit h)
-=======
   pub cost-answered : {o : Result (Unit {0}) Refusal} {s : Sum} {v : Result ℕ Refusal} → o ≡ outcome (rows_fault D N x) → o ≡ Ok tt → s ≡ cap (cost D x) → v ≡ ok_or s CostOffScale → v ≡ rows_and_cost D N x
   unfolding rows_and_cost cost_fault
   cost-answered e q s v = passed_first (rows_fault D N x) (cost_fault D x) (cost D x) (passes e q) (v ∙ rw s (cost-capped (cost D x)))
@@ -87,7 +66,6 @@ module _ (D : Data) (N : ℕ) (x : Index → ℕ) where
 -- of data laid out, the number of columns
 pub columns-laid : (t : Tables) {l : List ℕ} {n : ℕ} → t.list.now ≡ l → n ≡ count (column_boxes t.counts) → n ≡ count (column_boxes (read l).counts)
 columns-laid t e q = q ∙ ap (λ (d : Counts). count (column_boxes d)) (sym (laid-counts t e))
->>>>>>> ca9a001a385708168ea7a14c72197c81cef78fc1
 
 -- check, stage by stage
 
@@ -112,15 +90,6 @@ module _ (l : List ℕ) (N : ℕ) (plan : List ℕ) where
       passed_first (data_fault l) _ _ d
       (rw (← in_two (scale_fault N) (plan_length_fault (read l) plan) (or_else (rows_fault (read l) N (entries (read l) plan)) (cost_fault (read l) (entries (read l) plan))))
       (passed_first (or_else (scale_fault N) (plan_length_fault (read l) plan)) _ _ (outcome-fine _ (rw (← e) (sym t) ∙ q)) h))
-
--- the number of columns of data that are laid out
-pub columns-laid : {l : List ℕ} {n : ℕ} (t : Tables) → t.list.now ≡ l → n ≡ count (column_boxes t.counts) → n ≡ count (column_boxes (read l).counts)
-columns-laid t e h = rw (← e, t.laid_out.counts) h
-
--- its rows and cost, and those of the lists
-pub laid-entries : {l plan : List ℕ} (t : Tables) (p : Plan) (N : ℕ) → t.list.now ≡ l → p.list.now ≡ plan → p.counts ≡ t.counts
-    → rows_and_cost (data_of t) N (entry_of p) ≡ rows_and_cost (read l) N (entries (read l) plan)
-laid-entries t p N e q r = rw (← e, ← q, r, ← t.laid_out.counts) refl
 
 -- certify after check
 

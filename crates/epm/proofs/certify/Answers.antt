@@ -1,16 +1,10 @@
 use mathlib.Core.Path.{sym, ◌∙◌}
 use borrow.Author.Rules.{rules}
 use Rattle.epm.proofs.Laws.{accepted-parts, accepted-cost, certify-refused, certify-accepted, certified}
-use borrow.Author.Rules.{rules}
 use Rattle.epm.proofs.certify.Goals as goal
 
 pub returns-in_err-cost : goal.returns-in_err-cost
-<<<<<<< HEAD
-returns-in_err-cost c =
-    certified _ _ _ _ (search rules ∙ certify-refused _ _ _ _ (sym c.check.ensures.1 ∙ c.in_err-cost.was))
-=======
 returns-in_err-cost c = certified _ _ _ _ (certify-refused _ _ _ _ (sym c.check.ensures.1 ∙ c.in_err-cost.was) (search rules))
->>>>>>> ca9a001a385708168ea7a14c72197c81cef78fc1
 
 pub issue-requires : goal.issue-requires
 issue-requires c =

@@ -1,13 +1,4 @@
 use mathlib.Core.Path.{◌∙◌}
-<<<<<<< HEAD
-use Rattle.data_tests.proofs.Passed.{sound-head, passes}
-use Rattle.epm.proofs.Laws.{answered, data-refused, plan-refused, plan-passed, plan-whole, columns-laid, laid-entries}
-use borrow.Author.Rules.{rules}
-use Rattle.epm.proofs.check.Goals as goal
-
-pub returns-in_err-test_data : goal.returns-in_err-test_data
-returns-in_err-test_data c = answered (search rules ∙ data-refused _ _ _ c.test_data.ensures c.in_err-test_data.was)
-=======
 use borrow.Author.Rules.{rules}
 use Rattle.data_tests.proofs.Passed.{sound-head, passes, laid-counts}
 use Rattle.epm.proofs.Laws.{answered, columns-laid, data-refused, plan-refused, plan-passed, plan-whole}
@@ -15,7 +6,6 @@ use Rattle.epm.proofs.check.Goals as goal
 
 pub returns-in_err-test_data : goal.returns-in_err-test_data
 returns-in_err-test_data c = answered (data-refused _ _ _ c.test_data.ensures c.in_err-test_data.was (search rules))
->>>>>>> ca9a001a385708168ea7a14c72197c81cef78fc1
 
 pub lay_out-tables-requires : goal.lay_out-tables-requires
 lay_out-tables-requires c = sound-head _ (passes c.test_data.ensures c.in_ok-test_data.was)
@@ -24,33 +14,17 @@ pub returns-in_err-test_plan : goal.returns-in_err-test_plan
 returns-in_err-test_plan c =
     let sound = passes c.test_data.ensures c.in_ok-test_data.was in
     let columns = columns-laid c.lay_out-tables.result c.lay_out-tables.ensures c.column_count.ensures in
-<<<<<<< HEAD
-    answered (search rules ∙ plan-refused _ _ _ sound columns c.test_plan.ensures c.in_err-test_plan.was)
-=======
     answered (plan-refused _ _ _ sound columns c.test_plan.ensures c.in_err-test_plan.was (search rules))
->>>>>>> ca9a001a385708168ea7a14c72197c81cef78fc1
 
 pub lay_out_plan-plan-requires : goal.lay_out_plan-plan-requires
 lay_out_plan-plan-requires c =
     (c.lay_out-tables.result.laid_out.counted, plan-whole _ _ _ c.test_plan.ensures c.in_ok-test_plan.was ∙ c.column_count.ensures)
-<<<<<<< HEAD
-
-pub price-requires : goal.price-requires
-price-requires c = rw c.lay_out-tables.ensures (passes c.test_data.ensures c.in_ok-test_data.was)
-=======
->>>>>>> ca9a001a385708168ea7a14c72197c81cef78fc1
 
 pub returns : goal.returns
 returns c =
     let sound = passes c.test_data.ensures c.in_ok-test_data.was in
-<<<<<<< HEAD
-    let columns = columns-laid c.lay_out-tables.result c.lay_out-tables.ensures c.column_count.ensures in
-    answered (plan-passed _ _ _ sound columns c.test_plan.ensures c.in_ok-test_plan.was
-    (c.price.ensures ∙ laid-entries c.lay_out-tables.result c.lay_out_plan-plan.result _ c.lay_out-tables.ensures c.lay_out_plan-plan.ensures.0 c.lay_out_plan-plan.ensures.1))
-=======
     let tables = c.lay_out-tables.ensures in
     let plan = c.lay_out_plan-plan.ensures in
     let columns = columns-laid c.lay_out-tables.result tables c.column_count.ensures in
     answered (plan-passed _ _ _ sound columns c.test_plan.ensures c.in_ok-test_plan.was
     (c.price.ensures ∙ rw (plan.0, plan.1, ← laid-counts c.lay_out-tables.result tables, tables)))
->>>>>>> ca9a001a385708168ea7a14c72197c81cef78fc1
