@@ -1,6 +1,6 @@
 -- Laws of the calls: the stages of check and post, joined.
 use Rattle.model.specs.declared.Certificate.{Certificate}
-use Rattle.std.specs.Prelude.{Result, Ok, Err}
+use Rattle.std.specs.Prelude.{Result, Ok, Err, ok_or}
 use mathlib.Core.Path.{◌≡◌, refl, sym, ◌∙◌, ap}
 use Prim.Native.Nat.{ℕ, ◌-◌, ◌≤◌}
 use native.Mathlib.Omega.{arith}
@@ -8,10 +8,8 @@ use borrow.Author.Tests.{leb-true, eqb-true, le-leb, lt-leb}
 use lib.IntN.{ℤ}
 use lib.ListN.{length}
 use mathlib.Core.List.{List}
-use Rattle.compared.specs.declared.Amount.TheVariants.{Exactly, Above}
-use Rattle.capped.specs.Cap.{limit, cap}
-use Rattle.compared.specs.Compared.{told}
-use Rattle.compared.proofs.Laws.{told-exactly, told-above}
+use Rattle.capped.specs.Cap.{Sum, limit, cap}
+use Rattle.capped.proofs.Laws.{Capped, capped, low, high}
 use Rattle.sums.specs.Span.{Fault, fine, fault, or_else}
 use Rattle.sums.specs.Index.{Index, start, count}
 use Rattle.model.specs.declared.Refusal.{Refusal}
@@ -25,6 +23,9 @@ use Rattle.sums.proofs.Spans.{or_else-fine}
 use Rattle.model.specs.Rival.{Binds}
 use Rattle.model.proofs.Sound.{passed}
 use Rattle.model.proofs.Demand.{demand3}
+use Rattle.tables.specs.declared.lists.Tables.{Tables}
+use Rattle.tables.specs.declared.lists.Plan.{Plan}
+use Rattle.tables.specs.Lists.{data_of, entry_of}
 use Rattle.data_tests.proofs.Passed.{outcome-fine, refused-by, passed-by, in_two, passes}
 use Rattle.plan_tests.specs.Tests.{plan_test}
 use Rattle.boards.specs.Boards.{after, board_after_check}
@@ -53,16 +54,13 @@ module _ (D : Data) (N : ℕ) (x : Index → ℕ) where
   unfolding rows_and_cost
   rows-refused e q = refused-first (rows_fault D N x) (cost_fault D x) (cost D x) e q
 
-  pub cost-told : {o : Result (Unit {0}) Refusal} (v : ℕ) → o ≡ outcome (rows_fault D N x) → o ≡ Ok tt → told (cap (cost D x)) ≡ Exactly v → Ok v ≡ rows_and_cost D N x
+  pub rows-passed : {o : Result (Unit {0}) Refusal} → o ≡ outcome (rows_fault D N x) → o ≡ Ok tt → ok_or (cap (cost D x)) CostOffScale ≡ rows_and_cost D N x
   unfolding rows_and_cost cost_fault unless
-  cost-told v e q t =
-      let p = told-exactly (cost D x) v t in
-      passed_first (rows_fault D N x) (cost_fault D x) (cost D x) (outcome-fine _ (sym e ∙ q)) (rw (le-leb (cost D x) limit p.1, p.0))
-
-  pub cost-above : {o : Result (Unit {0}) Refusal} → o ≡ outcome (rows_fault D N x) → o ≡ Ok tt → told (cap (cost D x)) ≡ Above → Err CostOffScale ≡ rows_and_cost D N x
-  unfolding rows_and_cost cost_fault unless
-  cost-above e q t =
-      passed_first (rows_fault D N x) (cost_fault D x) (cost D x) (outcome-fine _ (sym e ∙ q)) (rw (lt-leb (cost D x) limit (told-above (cost D x) t)))
+  rows-passed e q = passed_first (rows_fault D N x) (cost_fault D x) (cost D x) (outcome-fine _ (sym e ∙ q)) (go (capped (cost D x)))
+    where
+      go : {s : Sum} → Capped (cost D x) s → ok_or s CostOffScale ≡ answer (cost_fault D x) (cost D x)
+      go (low h) = rw (le-leb (cost D x) limit h)
+      go (high h) = rw (lt-leb (cost D x) limit h)
 
 -- check, stage by stage
 
@@ -87,6 +85,15 @@ module _ (l : List ℕ) (N : ℕ) (plan : List ℕ) where
       passed_first (data_fault l) _ _ d
       (rw (← in_two (scale_fault N) (plan_length_fault (read l) plan) (or_else (rows_fault (read l) N (entries (read l) plan)) (cost_fault (read l) (entries (read l) plan))))
       (passed_first (or_else (scale_fault N) (plan_length_fault (read l) plan)) _ _ (outcome-fine _ (rw (← e) (sym t) ∙ q)) h))
+
+-- the number of columns of data that are laid out
+pub columns-laid : {l : List ℕ} {n : ℕ} (t : Tables) → t.list.now ≡ l → n ≡ count (column_boxes t.counts) → n ≡ count (column_boxes (read l).counts)
+columns-laid t e h = rw (← e, t.laid_out.counts) h
+
+-- its rows and cost, and those of the lists
+pub laid-entries : {l plan : List ℕ} (t : Tables) (p : Plan) (N : ℕ) → t.list.now ≡ l → p.list.now ≡ plan → p.counts ≡ t.counts
+    → rows_and_cost (data_of t) N (entry_of p) ≡ rows_and_cost (read l) N (entries (read l) plan)
+laid-entries t p N e q r = rw (← e, ← q, r, ← t.laid_out.counts) refl
 
 -- certify after check
 

@@ -46,7 +46,12 @@ pub fn check(data: &[u32], scale: u32, plan: &[u32]) -> Result<u64, Refusal>
 
 // certify: data, N, plan, one multiplier for each row; cost and gap, or the first refusal in the order of documents 01 and 02.
 // Demand 3 is the last part of its contract: an issued certificate binds every rival plan at every scale (`Binds`, model/specs/Rival.antt).
-pub fn certify(data: &[u32], scale: u32, plan: &[u32], multipliers: &[i64]) -> Result<Certificate, Refusal>
+pub fn certify(
+    data: &[u32],
+    scale: u32,
+    plan: &[u32],
+    multipliers: &[i64],
+) -> Result<Certificate, Refusal>
     ensures { (certificate_code result ≡ certificate_code (certifySpec «data».now scale plan.now multipliers.now))
         × ((result ≡ certifySpec «data».now scale plan.now multipliers.now) × Binds «data».now scale result) }
 {
