@@ -2,7 +2,7 @@
 use Rattle.model.specs.declared.Certificate.{Certificate}
 use Rattle.std.specs.Prelude.{Result, Ok, Err}
 use mathlib.Core.Path.{◌≡◌, sym, ◌∙◌}
-use Prim.Native.Nat.{ℕ, ◌-◌}
+use Prim.Native.Nat.{ℕ}
 use borrow.Author.Tests.{eqb-true}
 use lib.IntN.{ℤ}
 use lib.ListN.{length}
@@ -14,7 +14,6 @@ use Rattle.model.specs.declared.Shape.{Shape}
 use Rattle.model.specs.Data.{Data, read}
 use Rattle.tables.specs.declared.lists.Tables.{Tables}
 use Rattle.duals.proofs.Shapes.{shape-counts}
-use Rattle.model.specs.Prices.{cost}
 use Rattle.model.specs.Tests.{multiplier_count_fault, multipliers_fault, columns_fault, gap_fault, dual_fault, gap}
 use Rattle.model.specs.Calls.{certificate, outcome}
 use Rattle.sums.proofs.Spans.{or_else-fine}

@@ -2,7 +2,7 @@
 use Rattle.model.specs.declared.Certificate.{Certificate}
 use Rattle.std.specs.Prelude.{Result, Ok, Err, ok_or}
 use mathlib.Core.Path.{◌≡◌, refl, sym, ◌∙◌, ap}
-use Prim.Native.Nat.{ℕ, ◌-◌, ◌≤◌, ◌<◌}
+use Prim.Native.Nat.{ℕ, ◌≤◌, ◌<◌}
 use native.Mathlib.Omega.{arith}
 use borrow.Author.Tests.{leb-true, eqb-true, le-leb, lt-leb}
 use lib.IntN.{ℤ}

@@ -1,8 +1,7 @@
 -- An answer where there is room for its two figures, and what it says of rival plans.
 use Rattle.model.specs.declared.Certificate.{Certificate}
-use Rattle.std.specs.Prelude.{Result, Err}
+use Rattle.std.specs.Prelude.{Result, Ok, Err}
 use mathlib.Core.Path.{◌≡◌, refl, sym, ◌∙◌, ap}
-use mathlib.Core.Bool.{cond}
 use mathlib.Core.List.{List, [], ◌∷◌}
 use Prim.Native.Nat.{ℕ, ◌≤◌}
 use native.Mathlib.Omega.{arith}
@@ -13,7 +12,7 @@ use Rattle.model.specs.declared.Code.{Code}
 use Rattle.model.specs.declared.Refusal.{Refusal}
 use Rattle.model.specs.declared.Refusal.TheVariants.{Shape, DataLength, Entry, Scale, PlanLength, RowOffScale, Broken, CostOffScale, MultiplierCount, Multiplier, ColumnOffScale, Underpriced, GapOffScale, Board, Frame, Storage}
 use Rattle.model.specs.Data.{read}
-use Rattle.model.specs.Calls.{code_of, certificate_code, certify, issued}
+use Rattle.model.specs.Calls.{code_of, certificate_code, certify}
 use Rattle.model.specs.Rival.{Bounds, Binds}
 use Rattle.model.proofs.Demand.{demand3}
 use Rattle.exports.specs.Figures.{figures}
@@ -52,7 +51,7 @@ refused (Storage g) e = omega arith
 code-binds : (l : List ℕ) (N : ℕ) (a : Result Certificate Refusal) → Binds l N a → (certificate_code a).number ≡ 0
     → Bounds (read l) N (certificate_code a).first (certificate_code a).second
 unfolding certificate_code
-code-binds l N (issued c g) b e = b
+code-binds l N (Ok a) b e = b
 code-binds l N (Err r) b e = absurd (refused r e)
 
 -- the figures are what stands in the first two places

@@ -13,6 +13,7 @@ const NO_ROOM: u32 = 255;
 
 // 0 with the cost in out[0], or the refusal's number with its place there; out[1] is 0. 255 where `out` is shorter than 2, with nothing written.
 #[unsafe(no_mangle)]
+#[tactic(auto, unfolding(crate::specs::Exports::status, crate::specs::Exports::written))]
 pub extern "C" fn epm_check(data: &[u32], scale: u32, plan: &[u32], out: &mut [u64]) -> u32
     ensures { (result ≡ status (length out.old) (answer_code (check «data».now scale plan.now)))
         × (out.new ≡ written out.old (answer_code (check «data».now scale plan.now))) }
@@ -25,6 +26,7 @@ pub extern "C" fn epm_check(data: &[u32], scale: u32, plan: &[u32], out: &mut [u
 
 // 0 with the cost in out[0] and the gap in out[1]; else as epm_check. Demand 3 is the last part of its contract: where 0 comes back, these two figures bind every rival plan.
 #[unsafe(no_mangle)]
+#[tactic(auto, unfolding(crate::specs::Exports::status, crate::specs::Exports::written))]
 pub extern "C" fn epm_certify(
     data: &[u32],
     scale: u32,
@@ -47,6 +49,7 @@ pub extern "C" fn epm_certify(
 
 // The same answers, and the board as post leaves it; where `out` is too short the board is not written either.
 #[unsafe(no_mangle)]
+#[tactic(auto, unfolding(crate::specs::Exports::status, crate::specs::Exports::written, crate::specs::Exports::board_of))]
 pub extern "C" fn epm_post(
     data: &[u32],
     scale: u32,

@@ -7,6 +7,7 @@ ghost use Rattle.exports.specs.Figures.{figures};
 use model::Code;
 
 // The two figures of a code, and its number.
+#[tactic(auto, unfolding(crate::specs::Figures::figures))]
 pub fn put(out: &mut [u64], code: Code) -> u32
     requires { 2 ≤ length out.old }
     ensures { (result ≡ code.number) × (out.new ≡ figures out.old code) }

@@ -1,13 +1,6 @@
-use native.Mathlib.Omega.{arith}
-use mathlib.Core.Path.{refl, ◌∙◌}
-use borrow.Author.Tests.{lt-ltb}
-use Rattle.epm_c.specs.Exports.{status, written}
+use mathlib.Core.Path.{◌∙◌}
 use Rattle.epm_c.proofs.Laws.{answered, out-binds}
 use Rattle.epm_c.proofs.epm_certify.Goals as goal
-
-pub returns-then-out-lt2 : goal.returns-then-out-lt2
-unfolding status written
-returns-then-out-lt2 c = rw (lt-ltb _ _ c.if-out-lt2.true) (refl, (refl, λ z. absurd (omega arith)))
 
 pub returns : goal.returns
 returns c =

@@ -1,12 +1,6 @@
-use mathlib.Core.Path.{refl, ◌∙◌}
-use borrow.Author.Tests.{lt-ltb}
-use Rattle.epm_c.specs.Exports.{status, written, board_of}
+use mathlib.Core.Path.{◌∙◌}
 use Rattle.epm_c.proofs.Laws.{answered, board-kept}
 use Rattle.epm_c.proofs.epm_post.Goals as goal
-
-pub returns-then-out-lt2 : goal.returns-then-out-lt2
-unfolding status written board_of
-returns-then-out-lt2 c = rw (lt-ltb _ _ c.if-out-lt2.true) (refl, (refl, refl))
 
 pub returns : goal.returns
 returns c =
