@@ -1,5 +1,5 @@
 // Families 26 to 28: the rows of the lines that are built between zones. The source prints them without numbers, after (15).
-#![tactic(auto)]
+#![tactic(auto, unfolding(row_sums::specs::Ready::sides_of, row_sums::specs::Ready::sides_with, constants::specs::Constants::constant_of), using(row_sums::proofs::Laws::exact_sums))]
 
 ghost use Rattle.std.specs.Prelude.{◌≡◌, ℕ, ◌<◌};
 ghost use Rattle.model.specs.Data.{Data};

@@ -1,16 +1,14 @@
 -- What data that passed refusals 1 to 3 gives the columns: indices and coefficients in range, and the slices that ramps join. Assumes nothing.
-use mathlib.Core.Path.{◌≡◌, sym, ap, ◌∙◌}
+use mathlib.Core.Path.{◌≡◌, ap, ◌∙◌}
 use mathlib.Core.Logic.{⊎_elim}
 use mathlib.Core.Bool.{true}
-use mathlib.Core.List.{List}
 use Prim.Native.Nat.{ℕ, ◌+◌, ◌*◌, ◌%◌, ◌≤◌, ◌<◌}
 use native.Mathlib.Nat.{mul-le-mul, mul-mod_left, eq-or-lt_of_le}
 use native.Mathlib.Omega.{arith}
 use borrow.Author.Tests.{ltb-true}
 use lib.Dec.{ltb}
-use lib.IntN.{ℤ, pos}
-use lib.ListN.{length, get_or}
-use Rattle.sums.specs.Index.{index, box_of, inside}
+use lib.ListN.{get_or}
+use Rattle.sums.specs.Index.{box_of}
 use Rattle.model.specs.declared.Counts.{Counts}
 use Rattle.model.specs.Counts.{sets, slices_of}
 use Rattle.model.specs.Data.{Data, table_boxes, zone, fuel, rate, weight, availability, loss}
@@ -19,11 +17,9 @@ use Rattle.model.proofs.Sound.{entry-range, placed}
 use Rattle.tables.specs.declared.lists.TestedTables.{TestedTables}
 use Rattle.tables.specs.Layout.{Inside}
 use Rattle.tables.specs.Lists.{data_of}
-use Rattle.duals.specs.Multipliers.{multiplier_of, RowsAt}
-use Rattle.duals.proofs.Laws.{row_is, row_below}
-use Rattle.column_terms.specs.Pairs.{family_sets, row_multiplier}
+use Rattle.column_terms.specs.Pairs.{family_sets}
 use Rattle.column_terms.specs.Ramps.{RampAt}
-use Rattle.column_terms.proofs.Laws.{family-set, readable, row_at}
+use Rattle.column_terms.proofs.Laws.{row_at}
 
 module _ (t : TestedTables) where
   abbrev D : Data
@@ -73,22 +69,13 @@ next-slice c {s} h e =
         let z : (s + 1) % c.hours ≡ 0 = ap (λ (n : ℕ). n % c.hours) q ∙ mul-mod_left (c.seasons * c.days) c.hours in
         omega arith
 
--- a ramp's indices, its place among the rows, and the ramp of the slice after, where that is in the same day
+-- a ramp's indices, and the ramp of the slice after, where that is in the same day
 module _ {c : Counts} {set k y i s : ℕ} (r : RampAt c set k y i s) where
   pub ramp-inside : Inside c set y i 0 s
   ramp-inside = rw r.over at r.own.inside
 
   pub ramp-slice : s < slices_of c
   ramp-slice = rw r.slices at ramp-inside.slice
-
-  module _ {ms : List ℤ} {rows_at : List ℕ} (d : RowsAt ms rows_at c) where
-    pub ramp-place : (get_or rows_at k 0 + inside (box_of (sets c) set) y i 0 s < length ms)
-        × (multiplier_of (get_or ms (get_or rows_at k 0 + inside (box_of (sets c) set) y i 0 s) (pos 0)) ≡ row_multiplier c ms (index k y i 0 s))
-    unfolding row_multiplier
-    ramp-place =
-        let m = readable r.own in
-        let e = sym (family-set k r.own.family) ∙ r.over in
-        (rw (← e) (row_below m d), rw (← e, row_is m d))
 
   pub next-ramp : ltb 0 ((s + 1) % c.hours) ≡ true → RampAt c set k y i (s + 1)
   next-ramp e =

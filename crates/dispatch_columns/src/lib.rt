@@ -18,7 +18,6 @@ use tables::families::{
     RAMP_UPWARD, SPINNING, SYSTEM_EMISSION, ZONE_EMISSION,
 };
 use tables::names::{DURATION, EMISSION, ERR, HEAT_RATE};
-use tables::sets::BY_YEAR_PLANT_SLICE;
 
 // The rows of the plant's zone: families 1, 3, 17, 19 and 20.
 fn gen_in_zone(pricing: &Pricing, y: usize, g: usize, s: usize) -> Pair
@@ -64,15 +63,7 @@ pub fn gen_column(pricing: &Pricing, y: usize, g: usize, s: usize) -> Pair
 {
     let multipliers = &pricing.multipliers;
     let battery = pricing.tested.tables.is_battery(g);
-    let ramps = in_ramps(
-        multipliers,
-        BY_YEAR_PLANT_SLICE,
-        RAMP_DOWN,
-        RAMP_UPWARD,
-        y,
-        g,
-        s,
-    );
+    let ramps = in_ramps(multipliers, RAMP_DOWN, RAMP_UPWARD, y, g, s);
     gen_in_zone(pricing, y, g, s)
         .join(gen_in_load(pricing, y, g, s))
         .join(ramps)

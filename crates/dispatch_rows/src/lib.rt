@@ -1,5 +1,5 @@
 // Families 5 to 11: the rows of a plant's dispatch. None has a constant: its two sums are the same at every scale.
-#![tactic(auto)]
+#![tactic(auto, unfolding(row_sums::specs::Ready::sides_of, row_sums::specs::Ready::sides_with, constants::specs::Constants::constant_of), using(row_sums::proofs::Laws::exact_sums))]
 
 ghost use Rattle.std.specs.Prelude.{◌≡◌, ℕ, ◌+◌, ◌*◌, ◌≤◌, ◌<◌, length, get_or};
 ghost use Rattle.capped.specs.Cap.{cap};

@@ -144,7 +144,9 @@ pub struct Multipliers<'a> {
 }
 
 impl Multipliers<'_> {
-    // The multiplier of row p. With its family a constant, inlining leaves a few products and one read.
+    // The multiplier of row p. With its family a constant, inlining leaves a few products and one read. The hint: certify's walk over the columns took
+    // half as long again where this was called and not inlined.
+    #[inline(always)]
     pub fn at(&self, p: Place) -> Multiplier
         requires { Member (row_boxes self.now.counts) (index_of p) }
         ensures { result ≡ multiplier_of (get_or self.now.list.now (number (row_boxes self.now.counts) (index_of p)) (pos 0)) }

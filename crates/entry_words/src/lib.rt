@@ -16,7 +16,7 @@ use model::Counts;
 use places::entry_place;
 use sentences::say_range;
 use sums::Place;
-use tables::entries::number_at;
+use tables::lists::number_at;
 use tables::starts::table_set;
 use writer::{Line, ROOM};
 

@@ -28,7 +28,7 @@ answered l N plan ms (Err r) e = refused-asked l N plan ms (sym e)
 
 told-binds : (t : Text) → (a : Result Certificate Refusal) × ((rest : List ℕ) × ((explanation_of t ≡ line_of a ++ rest) × BindsRead t a))
 unfolding explanation_of certified_words answer_words
-told-binds (frame_at n) = (Withheld (Frame n), (_, (append_assoc (line_of (Err (Frame n))) _ _, tt)))
+told-binds (frame_at n) = (Err (Frame n), (_, (append_assoc (line_of (Err (Frame n))) _ _, tt)))
 told-binds (whole s) =
     (certify s.of_data (scale_in s.of_scal) s.of_plan s.of_dual, (_, (append_assoc (line_of (certify s.of_data (scale_in s.of_scal) s.of_plan s.of_dual)) _ _, demand3 s.of_data (scale_in s.of_scal) s.of_plan s.of_dual)))
 

@@ -8,8 +8,9 @@ use lib.Dec.{leb}
 use lib.IntN.{ℤ}
 use lib.ListN.{length, get_or}
 use borrow.Author.Tests.{leb-true, leb-false}
-use Rattle.std.specs.Prelude.{Ok}
-use Rattle.capped.specs.Cap.{limit, cap, Sum}
+use Rattle.std.proofs.Common.{Ok}
+use Rattle.compared.specs.Compared.{net_of}
+use Rattle.capped.specs.Cap.{limit, cap, both as join, Sum}
 use Rattle.capped.proofs.Laws.{both-cap}
 use Rattle.compared.proofs.Laws.{le-difference}
 use Rattle.sums.specs.declared.Box.{Box}
@@ -32,7 +33,7 @@ use Rattle.row_sums.specs.Ready.{sides_of}
 use Rattle.column_terms.specs.declared.Pair.{Pair}
 use Rattle.column_terms.specs.Pairs.{priced_pair}
 use Rattle.figures.specs.declared.ColumnFigures.{ColumnFigures}
-use Rattle.figures.specs.Figures.{row_figures, column_figures, entry_figures, told_pair}
+use Rattle.figures.specs.Figures.{row_figures, column_figures, entry_figures}
 
 -- Members of the index sets
 
@@ -52,15 +53,15 @@ counted-alike boxes r e m = subst (λ (d : Counts). Member (boxes d) r) e m
 
 -- The figures
 
-pub row_told : (l plan : List ℕ) (N : ℕ) (r : Index) {c : Counts} {s : Sides} → (read l).counts ≡ c → s ≡ sides_of (read l) N (plan_entry c plan) r
-    → record { above = s.above; below = s.below } ≡ row_figures (read l) N (entries (read l) plan) r
-unfolding sides_of row_figures
-row_told l plan N r e q = rw (q, ← e) refl
+pub row_told : (l plan : List ℕ) (N : ℕ) (r : Index) {c : Counts} {s : Sides} → (read l).counts ≡ c
+    → s ≡ sides_of (read l) N (plan_entry c plan) r → s ≡ row_figures (read l) N (entries (read l) plan) r
+unfolding read sides_of row_figures
+row_told l plan N r e q = rw (q, ← e)
 
-pub column-told : (D : Data) (ms : List ℤ) (x : Index) {v : Pair} {charged : Sum} {f : ColumnFigures} → v ≡ priced_pair D ms x → charged ≡ cap (price D x)
-    → f ≡ told_pair v charged → f ≡ column_figures D ms x
-unfolding priced_pair told_pair column_figures
-column-told D ms x a e n = n ∙ rw (a, e, both-cap (price D x) (priced⁻ D ms x))
+pub column-told : (D : Data) (ms : List ℤ) (x : Index) {v : Pair} {charged : Sum} → v ≡ priced_pair D ms x → charged ≡ cap (price D x)
+    → record { up = v.up; down = v.down; price = charged; short = net_of v.up (cap 0) (join charged v.down) } ≡ column_figures D ms x
+unfolding priced_pair column_figures
+column-told D ms x a e = rw (a, e, both-cap (price D x) (priced⁻ D ms x))
 
 -- a column is refused as underpriced where its sums are within the limit and its terms above zero exceed its price and its terms below
 underpriced : (a b : Bool) (m n : ℕ) {k : ℕ} → or_else (unless a (ColumnOffScale m)) (unless b (Underpriced n)) ≡ fault (Underpriced k) → (a ≡ true) × (b ≡ false)

@@ -1,19 +1,18 @@
 -- The figures of a row, a column and an entry, by the model's definitions. A sum above the limit has no figure.
 use Rattle.std.specs.Prelude.{List, ℕ, ◌+◌, ℤ}
-use Rattle.capped.specs.Cap.{cap, both, Sum}
+use Rattle.capped.specs.Cap.{cap}
 use Rattle.compared.specs.Compared.{net_of}
 use Rattle.sums.specs.Index.{Index, index}
 use Rattle.model.specs.Data.{Data}
 use Rattle.model.specs.Prices.{price}
 use Rattle.model.specs.Tests.{above, below, priced⁺, priced⁻}
 use Rattle.ranges.specs.Ranges.{range_of}
-use Rattle.column_terms.specs.declared.Pair.{Pair}
-use Rattle.figures.specs.declared.RowFigures.{RowFigures}
+use Rattle.row_sums.specs.declared.Sides.{Sides}
 use Rattle.figures.specs.declared.ColumnFigures.{ColumnFigures}
 use Rattle.figures.specs.declared.EntryFigures.{EntryFigures}
 
 -- a row's two sums, of a plan's entries x at scale N
-unfoldable pub row_figures : Data → ℕ → (Index → ℕ) → Index → RowFigures
+unfoldable pub row_figures : Data → ℕ → (Index → ℕ) → Index → Sides
 row_figures D N x r = record { above = cap (above D N x r); below = cap (below D N x r) }
 
 -- a column's two sums under the multipliers, its price, and up − (price + down)
@@ -28,7 +27,3 @@ column_figures D ms c = record {
 -- an entry and its range
 unfoldable pub entry_figures : Data → Index → EntryFigures
 entry_figures D (index t y i j s) = record { least = (range_of t D y i j s).least; most = (range_of t D y i j s).most; entry = D.entry t y i j s }
-
--- the same of a column's sums and price as the code has them
-unfoldable pub told_pair : Pair → Sum → ColumnFigures
-told_pair s p = record { up = s.up; down = s.down; price = p; short = net_of s.up (cap 0) (both p s.down) }

@@ -10,35 +10,28 @@ ghost use Rattle.model.specs.Data.{table_boxes, place_of, read};
 ghost use Rattle.model.specs.Columns.{column_boxes, entries};
 ghost use Rattle.model.specs.Families.{row_boxes};
 ghost use Rattle.model.specs.Prices.{price};
-ghost use Rattle.model.specs.Tests.{head_fault, counts_fault, length_fault, entries_fault, data_fault, priced⁺, priced⁻, column_fault};
+ghost use Rattle.model.specs.Tests.{head_fault, counts_fault, length_fault, data_fault, priced⁺, priced⁻, column_fault};
 ghost use Rattle.tables.specs.Lists.{data_of};
-ghost use Rattle.figures.specs.Figures.{told_pair, row_figures, column_figures, entry_figures};
+ghost use Rattle.figures.specs.Figures.{row_figures, column_figures, entry_figures};
 
 use capped::Sum;
 use column_prices::{hours_of, unit_price};
-use column_terms::Pair;
 use columns::column_sums;
-use compared::Balance;
+use compared::{Balance, difference};
 use data_tests::lay_out;
 use duals::{Pricing, lay_out_multipliers};
 use energy::totals::ENERGY_COUNT;
 use energy_table::fill_energies;
 use plan_tests::lay_out_plan;
 use ranges::range_at;
+use row_sums::Sides;
 use rows::row_sides;
 use rows::years::year_of;
 use sums::Place;
 use tables::lists::{Case, TestedTables, number_at};
 
-// What a row's positive terms and its negative terms come to.
-#[derive(Clone, Copy)]
-pub struct RowFigures {
-    pub above: Sum,
-    pub below: Sum,
-}
-
 // What a column's terms m·a above zero and below come to, its price, and how far it is underpriced: up - (price + down).
-#[derive(Clone, Copy)]
+#[derive(Clone, Copy, Debug, PartialEq, Eq)]
 pub struct ColumnFigures {
     pub up: Sum,
     pub down: Sum,
@@ -47,15 +40,15 @@ pub struct ColumnFigures {
 }
 
 // An entry of the data, and the least and the most that it may be.
-#[derive(Clone, Copy)]
+#[derive(Clone, Copy, Debug, PartialEq, Eq)]
 pub struct EntryFigures {
     pub least: u64,
     pub most: u64,
     pub entry: u64,
 }
 
-// A row of data and plan that passed refusals 1 to 3, 16 and 5.
-pub fn row_figures(data: &[u32], scale: u32, plan: &[u32], p: Place) -> RowFigures
+// What a row's positive terms and its negative terms come to, of data and plan that passed refusals 1 to 3, 16 and 5.
+pub fn row_figures(data: &[u32], scale: u32, plan: &[u32], p: Place) -> Sides
     requires { (data_fault «data».now ≡ fine) × ((length plan.now ≡ count (column_boxes (read «data».now).counts)) × Member (row_boxes (read «data».now).counts) (index_of p)) }
     ensures { result ≡ row_figures (read «data».now) scale (entries (read «data».now) plan.now) (index_of p) }
 {
@@ -65,23 +58,7 @@ pub fn row_figures(data: &[u32], scale: u32, plan: &[u32], p: Place) -> RowFigur
     let mut energy = [capped::zero(); ENERGY_COUNT];
     fill_energies(&case, &mut energy);
     let year = year_of(&case, &energy, p.year);
-    let sides = row_sides(&year, u64::from(scale), p);
-    RowFigures {
-        above: sides.above,
-        below: sides.below,
-    }
-}
-
-#[tactic(auto, unfolding(crate::specs::Figures::told_pair))]
-fn told_pair(sums: Pair, charged: Sum) -> ColumnFigures
-    ensures { result ≡ told_pair sums charged }
-{
-    ColumnFigures {
-        up: sums.up,
-        down: sums.down,
-        price: charged,
-        short: compared::difference(sums.up, capped::join(charged, sums.down)),
-    }
+    row_sides(&year, u64::from(scale), p)
 }
 
 // The sums and the price of the column at a place.
@@ -92,7 +69,13 @@ fn priced_at(pricing: &Pricing, p: Place) -> ColumnFigures
     let sums = column_sums(pricing, p);
     let unit = unit_price(pricing.tested.tables, p.kind, p.year, p.first, p.second);
     let hours = hours_of(pricing.tested.tables, p.kind, p.slice);
-    told_pair(sums, capped::scale(unit, hours))
+    let price = capped::scale(unit, hours);
+    ColumnFigures {
+        up: sums.up,
+        down: sums.down,
+        price,
+        short: difference(sums.up, capped::join(price, sums.down)),
+    }
 }
 
 // A column of data that passed refusals 1 to 3 and 16, with a multiplier for each row. Of an underpriced column `short` is how far it is.
@@ -105,11 +88,14 @@ pub fn column_figures<'a>(data: &'a [u32], multipliers: &'a [i64], p: Place) -> 
 {
     let tables = lay_out(data);
     let multipliers = lay_out_multipliers(multipliers, tables.counts);
-    let pricing = Pricing {
-        tested: TestedTables { tables: &tables },
-        multipliers,
-    };
-    priced_at(&pricing, p)
+    let tested = TestedTables { tables: &tables };
+    priced_at(
+        &Pricing {
+            tested,
+            multipliers,
+        },
+        p,
+    )
 }
 
 // The entry at `place` of data that passed refusals 1 and 2; `p` is what stands there.

@@ -1,5 +1,5 @@
 // Families 12 to 20: the rows of the fleet: capacity, builds, fuel, capital and emissions.
-#![tactic(auto)]
+#![tactic(auto, unfolding(row_sums::specs::Ready::sides_of, row_sums::specs::Ready::sides_with, constants::specs::Constants::constant_of), using(row_sums::proofs::Laws::exact_sums))]
 
 ghost use Rattle.std.specs.Prelude.{◌≡◌, not, ◌&&◌, ◌||◌, ℕ, ◌+◌, ◌<◌, eqb, leb, ltb};
 ghost use Rattle.sums.specs.Index.{Index};

@@ -1,6 +1,5 @@
 -- What the functions of the gap cite: a row's term, the families that are walked, what each of the five loops knows, and the answer.
 -- Assumes nothing.
-use Rattle.model.specs.declared.Refusal.{Refusal}
 use Rattle.std.specs.Prelude.{Err}
 use mathlib.Core.Path.{◌≡◌, refl, sym, ap, ◌∙◌}
 use mathlib.Core.Bool.{Bool, true, false, cond, ◌&&◌}

@@ -1,24 +1,19 @@
--- What the functions of several crates of rows cite: a row's two sums from the answers of the calls that make them, and the tests of the hour. A law
+-- What the functions of several crates of rows cite: a row's two sums from the answers of the calls that make them. A law
 -- takes the call's answer and the equations of its arguments, and gives the sum of the document's numbers. Assumes nothing.
-use mathlib.Core.Path.{◌≡◌, refl, sym, ap, ◌∙◌}
-use mathlib.Core.Bool.{Bool, true, false, not}
-use mathlib.Core.Logic.{⊎_elim}
+use mathlib.Core.Path.{◌≡◌, refl, ◌∙◌}
+use mathlib.Core.Bool.{Bool}
 use mathlib.Core.List.{List}
-use Prim.Native.Nat.{ℕ, ◌+◌, ◌*◌, ◌-◌, ◌%◌, ◌≤◌, ◌<◌}
-use native.Mathlib.Nat.{add-zero, mul-zero, zero-mod, sub_self}
-use native.Mathlib.Omega.{arith}
-use lib.Dec.{eqb, ltb}
+use Prim.Native.Nat.{ℕ, ◌+◌, ◌*◌, ◌-◌, ◌<◌}
+use native.Mathlib.Nat.{add-zero, mul-zero, sub_self}
 use lib.ListN.{get_or}
-use borrow.Author.Tests.{eqb-false}
 use Rattle.capped.specs.Cap.{cap, plus, plus_if, both, Sum}
-use Rattle.capped.proofs.Laws.{plus-cap, both-cap, le-or-lt}
+use Rattle.capped.proofs.Laws.{plus-cap, both-cap}
 use Rattle.sums.specs.Sum.{on}
 use Rattle.sums.specs.Index.{index}
 use Rattle.model.specs.declared.Counts.{Counts}
 use Rattle.model.specs.Counts.{slices_of}
 use Rattle.tables.specs.Layout.{plan_entry}
 use Rattle.parts.specs.Years.{YearPart}
-use Rattle.parts.proofs.Laws.{after_first}
 use Rattle.terms.proofs.Laws.{plus-on}
 use Rattle.constants.specs.declared.Constant.{Constant}
 use Rattle.row_sums.specs.declared.Sides.{Sides}
@@ -65,16 +60,5 @@ pub limit : (N v : ℕ) {r : Sides} {b : Sum} {k K : Constant} → r ≡ sides_w
     → r ≡ sides (0 + N * (K.adds - K.takes)) (v + N * (K.takes - K.adds))
 limit N v e q h = constant N 0 v e q refl h
 
--- Tests
-
--- the first hour of a day, t = 0, and a later one
-pub first-hour : {b : Bool} (t : ℕ) → b ≡ eqb t 0 → b ≡ true → ltb 0 t ≡ false
-first-hour t e h = sym (after_first t e) ∙ ap not h
-
-pub later-hour : {b : Bool} (t : ℕ) → b ≡ eqb t 0 → b ≡ false → ltb 0 t ≡ true
-later-hour t e h = sym (after_first t e) ∙ ap not h
-
--- a slice after the first hour of its day has one before it
-pub some-before : {b : Bool} (s n : ℕ) → b ≡ eqb (s % n) 0 → b ≡ false → 1 ≤ s
-some-before s n e h =
-    ⊎_elim (λ (l : s ≤ 0). let z : s ≡ 0 = omega arith in absurd (eqb-false (s % n) 0 (sym e ∙ h) (rw z (zero-mod n)))) (λ (l : 0 < s). l) (le-or-lt s 0)
+-- for a `search` of a row's two sums: the sums of exact numbers
+pub ruleset exact_sums = (plus-cap, both-cap, plus-on)

@@ -29,7 +29,7 @@ fn test_row(year: &Year, scale: u64, p: Place, equal: bool, row: usize) -> Resul
     verdict(sides, equal, row)
 }
 
-// Refusals 6 and 7.
+// Refusals 6 and 7. The nest of loops is document 01's labelled walk: the first row not met leaves it whole.
 pub fn test_rows<'a>(case: &'a Case<'a>, energy: &'a EnergyTable, scale: u64) -> Result<(), Refusal>
     requires { (entries_fault (data_of case.now.tables) ≡ fine) × (Energies (data_of case.now.tables) (entry_of case.now.plan) energy.now case.now.plan.counts) }
     ensures { result ≡ outcome (rows_fault (data_of case.now.tables) scale (entry_of case.now.plan)) }

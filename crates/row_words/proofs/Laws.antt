@@ -16,7 +16,7 @@ use Rattle.texts.specs.Claims.{bytes}
 use Rattle.sums.specs.declared.Place.{Place}
 use Rattle.places.specs.Numbers.{Numbered, member_at}
 use Rattle.places.proofs.Members.{member-is-at}
-use Rattle.figures.specs.declared.RowFigures.{RowFigures}
+use Rattle.row_sums.specs.declared.Sides.{Sides}
 use Rattle.figures.specs.Figures.{row_figures}
 use Rattle.sentences.specs.Sentences.{signed_words, row_words, sums_words, rule_words, multiplier_rule, off_scale_words, broken_words, multiplier_words}
 
@@ -27,7 +27,7 @@ module _ (l : List ℕ) {c : Counts} (e : c ≡ counts_of l) (n : ℕ) {p : Plac
     is_row : index_of p ≡ member_at (row_boxes c) n
     is_row = member-is-at (row_boxes c) n (index_of p) at.0 at.1
 
-    module _ (N : ℕ) (x : Index → ℕ) {f : RowFigures} (h : f ≡ row_figures (read l) N x (index_of p)) where
+    module _ (N : ℕ) (x : Index → ℕ) {f : Sides} (h : f ≡ row_figures (read l) N x (index_of p)) where
       pub off-scale-is : row_words c n (index_of p) ++ (sums_words f ++ bytes ", and neither may be more than 2^62 - 1") ≡ off_scale_words (read l) N x n
       unfolding off_scale_words
       off-scale-is = rw (h, is_row, ← counts-read l e)

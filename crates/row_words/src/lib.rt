@@ -13,10 +13,11 @@ ghost use Rattle.sentences.specs.Sentences.{equation_words, row_words, sums_word
 
 use data_tests::counts_of;
 use duals::multiplier_in;
-use figures::{RowFigures, row_figures};
+use figures::row_figures;
 use index_words::say_place;
 use model::Counts;
 use places::row_place;
+use row_sums::Sides;
 use sentences::{say_amount, say_signed};
 use sums::Place;
 use tables::sets::family_at;
@@ -80,7 +81,7 @@ fn say_row(line: &mut Line<ROOM>, c: Counts, row: usize, p: Place)
 }
 
 // What a row's terms of each sign come to.
-fn say_sums(line: &mut Line<ROOM>, sums: RowFigures)
+fn say_sums(line: &mut Line<ROOM>, sums: Sides)
     ensures { line.new ≡ added room line.old (sums_words sums) }
 {
     line.say(b": its positive terms come to ");

@@ -29,7 +29,7 @@ use tables::families::{
 use tables::names::{RAMP_DN, RAMP_UP};
 use zone_rows::{balance, firm, spinning, transfer};
 
-// The kind of `p` is the row's family, counted from 0.
+// The kind of `p` is the row's family, counted from 0. The match over the families is the form that document 01 names.
 #[tactic(auto, unfolding(model::specs::Families::family_of), using(tables::proofs::Laws::last_arm))]
 pub fn row_sides(year: &Year, scale: u64, p: Place) -> Sides
     requires { (p.year ≡ year.now.year) × ((p.kind < family_count) × (Inside year.now.case.now.plan.counts (family_of p.kind).set p.year p.first p.second p.slice)) }

@@ -17,7 +17,7 @@ use Rattle.texts.specs.Claims.{bytes}
 use Rattle.writer.specs.Decimal.{decimal}
 use Rattle.writer.specs.Names.{name_at}
 use Rattle.places.specs.Numbers.{member_at}
-use Rattle.figures.specs.declared.RowFigures.{RowFigures}
+use Rattle.row_sums.specs.declared.Sides.{Sides}
 use Rattle.figures.specs.declared.ColumnFigures.{ColumnFigures}
 use Rattle.figures.specs.declared.EntryFigures.{EntryFigures}
 use Rattle.figures.specs.Figures.{row_figures, column_figures, entry_figures}
@@ -62,7 +62,7 @@ equation_words n = cond (eqb n 0) (bytes ", ") (with ", equation (" n ++ bytes "
 unfoldable pub row_words : Counts → ℕ → Index → List ℕ
 row_words c n r = with "row " n ++ (equation_words (family_of (family_in r)).equation ++ (name_at family_names (family_in r) ++ place_words c (family_of (family_in r)).set r))
 
-unfoldable pub sums_words : RowFigures → List ℕ
+unfoldable pub sums_words : Sides → List ℕ
 sums_words f = bytes ": its positive terms come to " ++ (amount_words f.above ++ (bytes ", its negative terms to " ++ amount_words f.below))
 
 unfoldable pub rule_words : Bool → List ℕ

@@ -15,7 +15,6 @@ use tables::families::{
     BALANCE, BATTERY_LEVEL, CHARGE_FALL, CHARGE_LIMIT, CHARGE_RISE, LEVEL_LIMIT,
 };
 use tables::names::EFFICIENCY;
-use tables::sets::BY_YEAR_PLANT_SLICE;
 
 // Families 1 and 22; of a battery also 21, 23 and 24.
 pub fn charge_column(pricing: &Pricing, y: usize, g: usize, s: usize) -> Pair
@@ -31,15 +30,7 @@ pub fn charge_column(pricing: &Pricing, y: usize, g: usize, s: usize) -> Pair
         return common;
     }
     let efficiency = pricing.tested.tables.by_plant(EFFICIENCY, g);
-    let ramps = in_ramps(
-        multipliers,
-        BY_YEAR_PLANT_SLICE,
-        CHARGE_FALL,
-        CHARGE_RISE,
-        y,
-        g,
-        s,
-    );
+    let ramps = in_ramps(multipliers, CHARGE_FALL, CHARGE_RISE, y, g, s);
     common
         .take_row(efficiency, multipliers, BATTERY_LEVEL, y, g, 0, s)
         .join(ramps)

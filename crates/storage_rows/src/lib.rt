@@ -1,5 +1,5 @@
 // Families 21 to 25: the rows of batteries. A plant that is no battery has empty rows of 21, 23 and 24; those of 22 and 25 hold its charge and level to 0.
-#![tactic(auto)]
+#![tactic(auto, unfolding(row_sums::specs::Ready::sides_of, row_sums::specs::Ready::sides_with, constants::specs::Constants::constant_of), using(row_sums::proofs::Laws::exact_sums))]
 
 ghost use Rattle.std.specs.Prelude.{◌≡◌, List, ℕ, ◌+◌, ◌*◌, ◌-◌, ◌%◌, ◌<◌, ltb, length, get_or};
 ghost use Rattle.capped.specs.Cap.{cap};

@@ -1,5 +1,5 @@
 // Families 1 to 4: the rows of a zone.
-#![tactic(auto)]
+#![tactic(auto, unfolding(row_sums::specs::Ready::sides_of, row_sums::specs::Ready::sides_with, constants::specs::Constants::constant_of), using(row_sums::proofs::Laws::exact_sums))]
 
 ghost use Rattle.std.specs.Prelude.{◌≡◌, ℕ, ◌+◌, ◌*◌, ◌<◌, eqb, length};
 ghost use Rattle.capped.specs.Cap.{cap};

@@ -9,8 +9,9 @@ unfolding printed
 returns c =
     let certificate = c.certify_text.ensures in
     let said = rw c.new-line.ensures at c.answer_line.ensures.said in
+    let whole = said ∙ added-fitting _ _ _ (omega (arith, c.answer_line.ensures.short)) in
     rw (← certificate.0) (record {
-      whole = said ∙ added-fitting _ _ _ (omega (arith, c.answer_line.ensures.short));
-      short = rw (said, added-fitting) c.answer_line.ensures.short;
+      whole = whole;
+      short = rw whole c.answer_line.ensures.short;
       binds = (_, (refl, certificate.1));
     })

@@ -1,11 +1,18 @@
-use mathlib.Core.Path.{refl, ◌∙◌}
+use mathlib.Core.Path.{◌≡◌, refl, ◌∙◌}
+use Prim.Native.Nat.{ℕ, ◌*◌}
+use native.Mathlib.Nat.{zero-add}
+use Rattle.capped.specs.Cap.{cap, plus, Sum}
+use Rattle.capped.proofs.Laws.{plus-cap}
 use Rattle.model.specs.Data.{read, duration}
 use Rattle.model.specs.Families.{available}
 use Rattle.energy.proofs.Laws.{season-is, available-energy}
 use Rattle.row_sums.specs.Ready.{sides_of}
 use Rattle.row_sums.proofs.Laws.{two-sums, plain}
-use Rattle.dispatch_rows.proofs.Laws.{product3-is}
 use Rattle.dispatch_rows.proofs.available.Goals as goal
+
+-- a product of three, added to nothing
+product3-is : {r s : Sum} {a b d u v w : ℕ} → r ≡ plus s (a * b * d) → s ≡ cap 0 → a ≡ u → b ≡ v → d ≡ w → r ≡ cap (u * v * w)
+product3-is {u = u} {v = v} {w = w} e h p q t = e ∙ rw (h, p, q, t, plus-cap, zero-add)
 
 pub returns : goal.returns
 unfolding sides_of available

@@ -12,7 +12,8 @@ range_at-range-requires c =
     (inside.0, inside.1.first)
 
 pub number_at-requires : goal.number_at-requires
-number_at-requires c = entry_in (rw c.lay_out-tables.ensures at c.lay_out-tables.result.laid_out) c.requires.1.0 c.requires.1.1
+number_at-requires c =
+    entry_in (rw c.lay_out-tables.ensures at c.lay_out-tables.result.laid_out) c.requires.1.0 c.requires.1.1
 
 pub returns : goal.returns
 returns c =

@@ -1,7 +1,7 @@
 use Rattle.sums.specs.Index.{index_of}
 use Rattle.model.specs.Data.{read}
-use Rattle.model.specs.Columns.{column_boxes}
 use Rattle.column_prices.proofs.Laws.{column-price}
+use Rattle.model.specs.Columns.{column_boxes}
 use Rattle.tables.proofs.Members.{column-inside, year-inside}
 use Rattle.figures.proofs.Laws.{counted-alike, column-told}
 use Rattle.figures.proofs.priced_at.Goals as goal
@@ -19,7 +19,8 @@ hours_of-hours-requires c =
 
 pub returns : goal.returns
 returns c =
-    let pricing = c.args.pricing.now in
+    let D = read c.args.pricing.now.tested.tables.now.list.now in
     let p = c.args.p in
-    column-told (read pricing.tested.tables.now.list.now) pricing.multipliers.list.now (index_of p) c.column_sums-sums.ensures
-    (column-price (read pricing.tested.tables.now.list.now) p (column-inside _ c.requires).0 c.unit_price-unit.ensures c.hours_of-hours.ensures c.scale.ensures) c.told_pair.ensures
+    rw (c.difference.ensures, c.join.ensures)
+    (column-told D c.args.pricing.now.multipliers.list.now (index_of p) c.column_sums-sums.ensures
+    (column-price D p (column-inside _ c.requires).0 c.unit_price-unit.ensures c.hours_of-hours.ensures c.scale-price.ensures))

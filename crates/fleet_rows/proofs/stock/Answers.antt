@@ -1,14 +1,19 @@
-use mathlib.Core.Path.{◌≡◌, refl, ◌∙◌}
+use mathlib.Core.Path.{◌≡◌, refl, sym, ap, ◌∙◌}
+use Prim.Native.Nat.{ℕ, ◌+◌}
+use native.Mathlib.Nat.{add-zero}
+use Rattle.capped.specs.Cap.{cap, Sum}
 use mathlib.Core.Bool.{true, false}
 use native.Mathlib.Omega.{arith}
 use lib.Dec.{eqb, ltb}
-use borrow.Author.Tests.{lt-ltb, le-ltb, eq-eqb, ne_eqb}
+use borrow.Author.Tests.{lt-ltb, ne_eqb}
 use Rattle.constants.proofs.Laws.{flag-on, flag_off}
-use Rattle.constants.specs.Constants.{constant_of}
 use Rattle.row_sums.specs.Ready.{sides_of}
-use Rattle.row_sums.proofs.Laws.{product_is, plus-is, two-sums, plain, constant}
-use Rattle.fleet_rows.proofs.Laws.{plus-nothing}
+use Rattle.row_sums.proofs.Laws.{product_is, plus-is, two-sums, plain}
 use Rattle.fleet_rows.proofs.stock.Goals as goal
+
+-- a part of the document's sum is 0 here
+plus-nothing : {s : Sum} (u : ℕ) → s ≡ cap u → s ≡ cap (u + 0)
+plus-nothing u e = e ∙ ap cap (sym (add-zero u))
 
 pub returns-then-by_plant-ne0 : goal.returns-then-by_plant-ne0
 unfolding sides_of
@@ -17,17 +22,6 @@ returns-then-by_plant-ne0 c =
     (plain _ _ _
     (two-sums _ _ (plus-nothing _ (product_is c.product-own.ensures refl c.by_year_plant.ensures.0))
     (plus-is _ c.add_product.ensures c.earlier-before.ensures refl c.by_year_plant-then-by_plant-ne0.ensures.0)))
-
-pub returns-then-y-eq0 : goal.returns-then-y-eq0
-unfolding sides_of constant_of
-returns-then-y-eq0 c =
-    let y = c.args.y in
-    let f = flag-on 0 c.by_plant.ensures.0 c.if-by_plant-ne0.false in
-    let e : eqb y 0 ≡ true = eq-eqb y 0 c.if-y-eq0.true in
-    let l : ltb 0 y ≡ false = le-ltb 0 y (omega (arith, c.if-y-eq0.true)) in
-    rw (f, e, l)
-    (constant _ _ _ c.with_constant.ensures (rw (f, e) at c.stock_constant.ensures)
-    (plus-nothing _ (product_is c.product-own.ensures refl c.by_year_plant.ensures.0)) (c.earlier-before.ensures ∙ rw l))
 
 pub returns : goal.returns
 unfolding sides_of

@@ -2,22 +2,25 @@ use mathlib.Core.Path.{sym, ◌∙◌}
 use native.Mathlib.Omega.{arith}
 use Rattle.tables.proofs.Laws.{few-slices}
 use Rattle.column_terms.specs.Ramps.{in_ramps}
-use Rattle.column_terms.proofs.Laws.{join-priced, priced-as}
+use Rattle.column_terms.proofs.Laws.{none-priced, add-priced-if, take-priced-if, priced-as}
 use Rattle.column_terms.proofs.Sound.{ramp-slice, next-ramp}
 use Rattle.column_terms.proofs.ramps.in_ramps.Goals as goal
 
 pub overflow_add-next : goal.overflow_add-next
-overflow_add-next c = let p = c.requires.0 in record { fits = omega (arith, few-slices c.args.multipliers.now.counted, ramp-slice p) }
+overflow_add-next c = record { fits = omega (arith, few-slices c.args.multipliers.now.counted, ramp-slice c.requires.0) }
 
-pub in_ramp-later-requires : goal.in_ramp-later-requires
-in_ramp-later-requires c =
-    let p = c.requires in
-    λ e. let h = sym c.after_first_hour-2.ensures ∙ e in (next-ramp c.requires.1 h, next-ramp c.requires.0 h)
+pub add_row_if-requires-2 : goal.add_row_if-requires-2
+add_row_if-requires-2 c = λ e. (next-ramp c.requires.1 (sym c.after_first_hour-later.ensures ∙ e)).own
+
+pub take_row_if-requires-2 : goal.take_row_if-requires-2
+take_row_if-requires-2 c = λ e. (next-ramp c.requires.0 (sym c.after_first_hour-later.ensures ∙ e)).own
 
 pub returns : goal.returns
 unfolding in_ramps
 returns c =
-    let before = c.after_first_hour.ensures in
-    let after = c.after_first_hour-2.ensures in
-    priced-as (join-priced (record { is = c.in_ramp-own.ensures }) (record { is = c.in_ramp-later.ensures }) c.join.ensures)
-    _ _ (λ m. rw (before, after) (omega arith)) (λ m. rw (before, after) (omega arith))
+    let own = c.after_first_hour-own.ensures in
+    let later = c.after_first_hour-later.ensures in
+    let t2 = take-priced-if (add-priced-if (none-priced c.none.ensures) _ c.add_row_if.ensures) _ c.take_row_if.ensures in
+    priced-as (take-priced-if (add-priced-if t2 _ c.add_row_if-2.ensures) _ c.take_row_if-2.ensures) _ _
+    (λ m. rw (own, later) (omega arith))
+    (λ m. rw (own, later) (omega arith))
