@@ -36,6 +36,24 @@ over-true n e = ltb-true limit n (sym (over-cap n) ∙ e)
 pub over_false : (n : ℕ) → over (cap n) ≡ false → n ≤ limit
 over_false n e = ltb-false limit n (sym (over-cap n) ∙ e)
 
+-- What a sum says of the exact number n.
+abbrev pub Tells : Sum → ℕ → Type 0
+Tells (Some v) n = (v ≡ n) × (n ≤ limit)
+Tells None n = limit < n
+
+pub told-tells : (n : ℕ) → Tells (cap n) n
+told-tells n = go (capped n)
+  where
+    go : {s : Sum} → Capped n s → Tells s n
+    go (low h) = (refl, h)
+    go (high h) = h
+
+pub told-exactly : (n v : ℕ) → cap n ≡ Some v → (v ≡ n) × (n ≤ limit)
+told-exactly n v e = rw e at (told-tells n)
+
+pub told-above : (n : ℕ) → cap n ≡ None → limit < n
+told-above n e = rw e at (told-tells n)
+
 -- The order of two sums. The first three are of two numbers.
 
 module _ (v w : ℕ) where

@@ -32,7 +32,7 @@ use Rattle.plan_tests.specs.Tests.{plan_test}
 use Rattle.boards.specs.Boards.{after, board_after_check}
 use Rattle.epm.specs.Answers.{rows_and_cost}
 
--- an answer as the promises have it: document 01's number and values, and the case of the enum with them
+-- an answer as the promises have it: document 01's number and values, and the `Result` with them
 
 pub answered : {r a : Result ℕ Refusal} → r ≡ a → (answer_code r ≡ answer_code a) × (r ≡ a)
 answered e = (ap answer_code e, e)

@@ -1,5 +1,5 @@
 // The published calls: check, certify and post. Each takes any lists, and answers on every input. Its contract says the answer in document 01's
-// number and values (`answer_code`, `certificate_code`), and as the case of the enum that callers match on.
+// number and values (`answer_code`, `certificate_code`), and as the `Result` that callers match on.
 #![tactic(auto)]
 
 ghost use Rattle.std.specs.Prelude.{◌≡◌};
