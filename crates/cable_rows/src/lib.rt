@@ -8,7 +8,7 @@ ghost use Rattle.row_sums.specs.Ready.{sides_of};
 ghost use Rattle.tables.specs.Lists.{data_of, entry_of};
 
 use row_sums::{Sides, at_most, empty};
-use tables::lists::{Case, Plan};
+use tables::lists::{Case, Entries, Plan};
 use tables::names::{BUILT_LINES, TOTAL_LINES};
 use tables::sets::BY_LINK;
 use terms::years::{earlier, over_years};

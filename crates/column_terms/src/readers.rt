@@ -9,7 +9,7 @@ ghost use Rattle.tables.specs.Lists.{data_of};
 
 use model::Counts;
 use parts::slices::{day_of, first_hour, season_of};
-use tables::lists::{Tables, TestedTables};
+use tables::lists::{Entries, Tables, TestedTables};
 use tables::names::{ANNUITY, AVAILABILITY, DURATION, FUEL, LOSS, MIN_LOAD, YEAR, ZONE};
 use terms::plants::{season_hours, year_weight};
 

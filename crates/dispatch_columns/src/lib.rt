@@ -13,6 +13,7 @@ use column_terms::ramps::in_ramps;
 use column_terms::readers::{fuel_of, hourly, on_min_load_day, zone_of};
 use duals::Pricing;
 use parts::slices::season_of;
+use tables::lists::Entries;
 use tables::families::{
     AVAILABLE, BALANCE, BATTERY_LEVEL, FUEL_USE, LOADING, MINIMUM_LOAD, OFFER, PROFILED, RAMP_DOWN,
     RAMP_UPWARD, SPINNING, SYSTEM_EMISSION, ZONE_EMISSION,

@@ -19,7 +19,7 @@ use model::Counts;
 use parts::slices::{day_of, first_hour, season_of};
 use parts::years::part_at;
 use row_sums::{Change, Sides, empty};
-use tables::lists::{Case, Plan};
+use tables::lists::{Case, Entries, Plan};
 use tables::names::{AVAILABILITY, CAP, MIN_CAP_FAC, MIN_LOAD, OVER_LOAD, PROFILE, RES_OFFER};
 use terms::plants::season_hours;
 

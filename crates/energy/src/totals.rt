@@ -11,7 +11,7 @@ ghost use Rattle.tables.specs.Lists.{data_of};
 use capped::Sum;
 use model::Counts;
 use parts::years::part_at;
-use tables::lists::Tables;
+use tables::lists::{Entries, Tables};
 use tables::names::{DURATION, EMISSION, FUEL, HEAT_RATE, ZONE};
 
 // A plant's energy in every year and season, as many of each as there may be: 10 years, 32 plants and 4 seasons.

@@ -7,7 +7,7 @@ ghost use Rattle.constants.specs.Constants.{constant_of};
 ghost use Rattle.tables.specs.Lists.{data_of};
 
 use constants::{Constant, NONE};
-use tables::lists::Tables;
+use tables::lists::{Entries, Tables};
 use tables::names::{
     BUILD_LIMIT, ENERGY_CAPACITY, GEN_CAP, KIND, MAX_CAPITAL, MAX_FUEL, MAX_NEW_CAP, SYSTEM_CAP,
     WEIGHT, ZONE_CAP,

@@ -14,7 +14,7 @@ use fleet_constants::{
     system_emission_constant, yearly_build_constant, zone_emission_constant,
 };
 use row_sums::{Sides, at_most, empty, with_constant};
-use tables::lists::{Case, Tables};
+use tables::lists::{Case, Entries, Tables};
 use tables::names::{BUILD, CAP, KIND, RETIRE, YEAR};
 use tables::sets::BY_YEAR_PLANT;
 use terms::plants::capital_sum;

@@ -12,7 +12,7 @@ ghost use Rattle.hour_costs.specs.Costs.{Hours, slices_cost, hourly_cost, hours_
 ghost use Rattle.tables.specs.Lists.{data_of, entry_of};
 
 use capped::Sum;
-use tables::lists::{Case, Plan, Tables};
+use tables::lists::{Case, Entries, Plan, Tables};
 use tables::names::{DURATION, GEN, RESERVE, SPINSHORT, SURPLUS, UNMET};
 use tables::sets::{inside_of, slices_of};
 use tables::starts::{column_box, column_set};

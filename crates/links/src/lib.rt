@@ -11,7 +11,7 @@ ghost use Rattle.links.specs.Links.{link};
 ghost use Rattle.tables.specs.Lists.{data_of, entry_of};
 
 use capped::Sum;
-use tables::lists::{Case, Plan};
+use tables::lists::{Case, Entries, Plan};
 use tables::names::{LOSS, MW_PER_LINE, TOTAL_LINES, TRANS};
 use terms::totals::{product_if, total};
 

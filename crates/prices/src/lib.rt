@@ -12,7 +12,7 @@ ghost use Rattle.tables.specs.Lists.{data_of, entry_of};
 use capped::Sum;
 use column_prices::unit_price;
 use hour_costs::hours_cost;
-use tables::lists::Case;
+use tables::lists::{Case, Entries};
 use tables::names::{CAP, FIRMSHORT, TOTAL_LINES};
 use tables::starts::{column_box, column_set};
 use terms::totals::total;

@@ -11,6 +11,7 @@ use column_terms::Pair;
 use column_terms::ramps::in_ramps;
 use column_terms::readers::{after_first_hour, zone_of};
 use duals::Pricing;
+use tables::lists::Entries;
 use tables::families::{
     BALANCE, BATTERY_LEVEL, CHARGE_FALL, CHARGE_LIMIT, CHARGE_RISE, LEVEL_LIMIT,
 };

@@ -20,7 +20,7 @@ use model::Counts;
 use parts::slices::first_hour;
 use parts::years::part_at;
 use row_sums::{Change, Sides, at_most, empty};
-use tables::lists::{Case, Tables};
+use tables::lists::{Case, Entries, Tables};
 use tables::names::{CAP, EFFICIENCY};
 
 // 21 (42, 43), battery: level = level[s−1] (0 before a day's first slice) + Efficiency·charge − 1000·gen

@@ -10,7 +10,7 @@ ghost use Rattle.tables.specs.Lists.{data_of, entry_of};
 use crate::totals::{exact_total, product_if, total};
 use capped::Sum;
 use parts::years::part_at;
-use tables::lists::{Case, Tables};
+use tables::lists::{Case, Entries, Tables};
 use tables::names::{ANNUITY, CAP, CAP_CREDIT, DURATION, KIND, RATE, VRE, WEIGHT, ZONE};
 
 // A loop here and in `vre_sum`, and no `total`: a sum of terms takes half as long again, and the rows of each slice wait for these two.

@@ -9,7 +9,7 @@ ghost use Rattle.tables.specs.Lists.{entry_of};
 
 use crate::totals::total;
 use capped::Sum;
-use tables::lists::Plan;
+use tables::lists::{Entries, Plan};
 
 // The entry of the year before, 0 before the first.
 pub fn earlier(plan: &Plan, t: usize, k: usize, y: usize, i: usize, j: usize) -> Sum

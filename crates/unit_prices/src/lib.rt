@@ -9,7 +9,7 @@ ghost use Rattle.unit_prices.specs.Prices.{Hourly, firsts_of, hour_price};
 ghost use Rattle.tables.specs.Lists.{data_of};
 
 use capped::Sum;
-use tables::lists::Tables;
+use tables::lists::{Entries, Tables};
 use tables::names::{
     ANNUITY, EMISSION, FIXED_OM, GEN, GEN_COST, KIND, LINE_ANNUITY, RES_COST, RESERVE, SRES_VOLL,
     SURPLUS, SURPLUS_PENALTY, TAX, UNMET, VOLL,

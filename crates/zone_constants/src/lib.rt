@@ -12,7 +12,7 @@ use constants::Constant;
 use link_limits::{limits_into, lowest_limits_into};
 use parts::slices::season_of;
 use peaks::zone_peak;
-use tables::lists::{Tables, TestedTables};
+use tables::lists::{Entries, Tables, TestedTables};
 use tables::names::{DEMAND, EE, LINE_LIMIT, PRM, S_RES, TL};
 
 // Thousandths that a zone's load is multiplied by: in the balance the Demand of a slice by EE, for firm capacity the peak by 1000 + PRM.

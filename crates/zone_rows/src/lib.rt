@@ -19,7 +19,7 @@ ghost use Rattle.tables.specs.Lists.{data_of, entry_of};
 use capped::Sum;
 use links::{Direction, flows, lines_into, received};
 use row_sums::{Sides, with_constant};
-use tables::lists::{Case, TestedTables};
+use tables::lists::{Case, Entries, TestedTables};
 use tables::names::{ERR, FIRMSHORT, MW_PER_LINE, SPINSHORT, SURPLUS, TOTAL_LINES, TRANS, UNMET};
 use terms::plants::{credit_sum, vre_sum, zone_sum};
 use zone_constants::{balance_constant, firm_constant, spinning_constant, transfer_constant};

@@ -1,7 +1,7 @@
 use native.Mathlib.Omega.{arith}
 use mathlib.Core.Path.{◌∙◌}
 use Rattle.tables.proofs.Laws.{column-below, column-is}
-use Rattle.tables.proofs.lists.Plan.entry_in.Goals as goal
+use Rattle.tables.proofs.lists.PlanEntries.entry_in.Goals as goal
 
 pub overflow_add-self : goal.overflow_add-self
 overflow_add-self c = omega (arith, column-below c.args.self.now.laid_out c.requires, c.inside_of-o.ensures)
