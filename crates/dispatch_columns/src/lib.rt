@@ -13,11 +13,11 @@ use column_terms::ramps::in_ramps;
 use column_terms::readers::{fuel_of, hourly, on_min_load_day, zone_of};
 use duals::Pricing;
 use parts::slices::season_of;
-use tables::lists::Entries;
 use tables::families::{
     AVAILABLE, BALANCE, BATTERY_LEVEL, FUEL_USE, LOADING, MINIMUM_LOAD, OFFER, PROFILED, RAMP_DOWN,
     RAMP_UPWARD, SPINNING, SYSTEM_EMISSION, ZONE_EMISSION,
 };
+use tables::lists::Entries;
 use tables::names::{DURATION, EMISSION, ERR, HEAT_RATE};
 
 // The rows of the plant's zone: families 1, 3, 17, 19 and 20.

@@ -21,7 +21,7 @@ pub fn year_part<'a>(plan: &Plan<'a>, t: usize, y: usize) -> &'a [u32]
 }
 
 // Of years of so many places each, one after another from a place on, those of year y.
-fn places_of(list: &[u32], from: usize, places: usize, y: usize) -> &[u32]
+pub fn places_of(list: &[u32], from: usize, places: usize, y: usize) -> &[u32]
     requires { (from + (y + 1) * places ≤ length list.now) × ((places ≤ 12288) × (y < 10)) }
     ensures { result.now ≡ take places (drop (from + y * places) list.now) }
 {

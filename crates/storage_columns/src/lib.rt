@@ -11,10 +11,10 @@ use column_terms::Pair;
 use column_terms::ramps::in_ramps;
 use column_terms::readers::{after_first_hour, zone_of};
 use duals::Pricing;
-use tables::lists::Entries;
 use tables::families::{
     BALANCE, BATTERY_LEVEL, CHARGE_FALL, CHARGE_LIMIT, CHARGE_RISE, LEVEL_LIMIT,
 };
+use tables::lists::Entries;
 use tables::names::EFFICIENCY;
 
 // Families 1 and 22; of a battery also 21, 23 and 24.

@@ -1,6 +1,8 @@
 // The lists that a caller hands over, each with its counts and the starts of its tables: the data and the plan, read by table and index.
 // There is a reader for each index set, named as the documents write it: `by_plant(GEN_CAP, g)` is GenCap[g]. Each is its index set's code handed to `entry_in`,
 // which does the reading. With the code a constant, inlining leaves a few products and one read; so no reader looks the code up by its table.
+// Readers of the same shape, as `by_plant` and `by_zone`, are not one with the code handed in: that is `entry_in`, at which a caller has to know that the
+// two indices of `by_year_plant` are the first and the second of four, and `by_day`'s the second and the third.
 ghost use Rattle.std.specs.Prelude.{◌≡◌, List, ℕ, ◌+◌, ◌≤◌, ◌<◌, length, get_or};
 ghost use Rattle.sums.specs.Span.{fine};
 ghost use Rattle.model.specs.Columns.{column_sets};
@@ -25,6 +27,9 @@ pub fn number_at(list: &[u32], i: usize) -> u64
 {
     u64::from(list[i])
 }
+
+// The data, a plan and the multipliers (`duals`) are three structs and not one of three kinds: what lies in their fields has the same shape, what is known
+// of it is another fact each time, and a list of one kind must not be taken for another's.
 
 // The data list, laid out: it passed refusals 1 and 2.
 #[derive(Drop)]
@@ -64,121 +69,123 @@ pub struct TestedTables<'a> {
 pub trait Entries {
     // The index sets of its tables, its counts, and the entry of a table at a year, a first index, a second index and a slice.
     ghost kinds: { List ℕ };
-    ghost sizes: { Self → Counts };
+
+    ghost counts: { Self → Counts };
+
     ghost entry: { Self → ℕ → ℕ → ℕ → ℕ → ℕ → ℕ };
 
     // Any entry: table `t`, whose index set has the code `k`, at year `y`, first index `i`, second index `j` and slice `s`.
     fn entry_in(&self, t: usize, k: usize, y: usize, i: usize, j: usize, s: usize) -> u64
-        requires { EntryAt kinds (sizes self.now) t k y i j s }
+        requires { EntryAt kinds (counts self.now) t k y i j s }
         ensures { (result ≡ entry self.now t y i j s) × (result ≤ most32) };
 
     fn by_year(&self, t: usize, y: usize) -> u64
-        requires { EntryAt kinds (sizes self.now) t [y] y 0 0 0 }
+        requires { EntryAt kinds (counts self.now) t [y] y 0 0 0 }
         ensures { (result ≡ entry self.now t y 0 0 0) × (result ≤ most32) }
     {
         self.entry_in(t, BY_YEAR, y, 0, 0, 0)
     }
 
     fn by_slice(&self, t: usize, s: usize) -> u64
-        requires { EntryAt kinds (sizes self.now) t [s] 0 0 0 s }
+        requires { EntryAt kinds (counts self.now) t [s] 0 0 0 s }
         ensures { (result ≡ entry self.now t 0 0 0 s) × (result ≤ most32) }
     {
         self.entry_in(t, BY_SLICE, 0, 0, 0, s)
     }
 
     fn by_day(&self, t: usize, q: usize, d: usize) -> u64
-        requires { EntryAt kinds (sizes self.now) t [qd] 0 q d 0 }
+        requires { EntryAt kinds (counts self.now) t [qd] 0 q d 0 }
         ensures { (result ≡ entry self.now t 0 q d 0) × (result ≤ most32) }
     {
         self.entry_in(t, BY_DAY, 0, q, d, 0)
     }
 
     fn by_plant(&self, t: usize, g: usize) -> u64
-        requires { EntryAt kinds (sizes self.now) t [g] 0 g 0 0 }
+        requires { EntryAt kinds (counts self.now) t [g] 0 g 0 0 }
         ensures { (result ≡ entry self.now t 0 g 0 0) × (result ≤ most32) }
     {
         self.entry_in(t, BY_PLANT, 0, g, 0, 0)
     }
 
     fn by_plant_season(&self, t: usize, g: usize, q: usize) -> u64
-        requires { EntryAt kinds (sizes self.now) t [gq] 0 g 0 q }
+        requires { EntryAt kinds (counts self.now) t [gq] 0 g 0 q }
         ensures { (result ≡ entry self.now t 0 g 0 q) × (result ≤ most32) }
     {
         self.entry_in(t, BY_PLANT_SEASON, 0, g, 0, q)
     }
 
     fn by_plant_slice(&self, t: usize, g: usize, s: usize) -> u64
-        requires { EntryAt kinds (sizes self.now) t [gs] 0 g 0 s }
+        requires { EntryAt kinds (counts self.now) t [gs] 0 g 0 s }
         ensures { (result ≡ entry self.now t 0 g 0 s) × (result ≤ most32) }
     {
         self.entry_in(t, BY_PLANT_SLICE, 0, g, 0, s)
     }
 
     fn by_year_plant(&self, t: usize, y: usize, g: usize) -> u64
-        requires { EntryAt kinds (sizes self.now) t [yg] y g 0 0 }
+        requires { EntryAt kinds (counts self.now) t [yg] y g 0 0 }
         ensures { (result ≡ entry self.now t y g 0 0) × (result ≤ most32) }
     {
         self.entry_in(t, BY_YEAR_PLANT, y, g, 0, 0)
     }
 
     fn by_year_zone_slice(&self, t: usize, y: usize, z: usize, s: usize) -> u64
-        requires { EntryAt kinds (sizes self.now) t [yzs] y z 0 s }
+        requires { EntryAt kinds (counts self.now) t [yzs] y z 0 s }
         ensures { (result ≡ entry self.now t y z 0 s) × (result ≤ most32) }
     {
         self.entry_in(t, BY_YEAR_ZONE_SLICE, y, z, 0, s)
     }
 
     fn by_year_zone(&self, t: usize, y: usize, z: usize) -> u64
-        requires { EntryAt kinds (sizes self.now) t [yz] y z 0 0 }
+        requires { EntryAt kinds (counts self.now) t [yz] y z 0 0 }
         ensures { (result ≡ entry self.now t y z 0 0) × (result ≤ most32) }
     {
         self.entry_in(t, BY_YEAR_ZONE, y, z, 0, 0)
     }
 
     fn by_zone(&self, t: usize, z: usize) -> u64
-        requires { EntryAt kinds (sizes self.now) t [z] 0 z 0 0 }
+        requires { EntryAt kinds (counts self.now) t [z] 0 z 0 0 }
         ensures { (result ≡ entry self.now t 0 z 0 0) × (result ≤ most32) }
     {
         self.entry_in(t, BY_ZONE, 0, z, 0, 0)
     }
 
     fn by_link_slice(&self, t: usize, y: usize, z: usize, w: usize, s: usize) -> u64
-        requires { EntryAt kinds (sizes self.now) t [yzzs] y z w s }
+        requires { EntryAt kinds (counts self.now) t [yzzs] y z w s }
         ensures { (result ≡ entry self.now t y z w s) × (result ≤ most32) }
     {
         self.entry_in(t, BY_LINK_SLICE, y, z, w, s)
     }
 
     fn by_link_season(&self, t: usize, y: usize, z: usize, w: usize, q: usize) -> u64
-        requires { EntryAt kinds (sizes self.now) t [yzzq] y z w q }
+        requires { EntryAt kinds (counts self.now) t [yzzq] y z w q }
         ensures { (result ≡ entry self.now t y z w q) × (result ≤ most32) }
     {
         self.entry_in(t, BY_LINK_SEASON, y, z, w, q)
     }
 
     fn by_link(&self, t: usize, y: usize, z: usize, w: usize) -> u64
-        requires { EntryAt kinds (sizes self.now) t [yzz] y z w 0 }
+        requires { EntryAt kinds (counts self.now) t [yzz] y z w 0 }
         ensures { (result ≡ entry self.now t y z w 0) × (result ≤ most32) }
     {
         self.entry_in(t, BY_LINK, y, z, w, 0)
     }
 
     fn by_pair(&self, t: usize, z: usize, w: usize) -> u64
-        requires { EntryAt kinds (sizes self.now) t [zz] 0 z w 0 }
+        requires { EntryAt kinds (counts self.now) t [zz] 0 z w 0 }
         ensures { (result ≡ entry self.now t 0 z w 0) × (result ≤ most32) }
     {
         self.entry_in(t, BY_PAIR, 0, z, w, 0)
     }
 
     fn by_year_fuel(&self, t: usize, y: usize, f: usize) -> u64
-        requires { EntryAt kinds (sizes self.now) t [yf] y 0 f 0 }
+        requires { EntryAt kinds (counts self.now) t [yf] y 0 f 0 }
         ensures { (result ≡ entry self.now t y 0 f 0) × (result ≤ most32) }
     {
         self.entry_in(t, BY_YEAR_FUEL, y, 0, f, 0)
     }
 
     fn single(&self, t: usize) -> u64
-        requires { EntryAt kinds (sizes self.now) t [one] 0 0 0 0 }
+        requires { EntryAt kinds (counts self.now) t [one] 0 0 0 0 }
         ensures { (result ≡ entry self.now t 0 0 0 0) × (result ≤ most32) }
     {
         self.entry_in(t, SINGLE, 0, 0, 0, 0)
@@ -189,7 +196,9 @@ impl Entries for Tables<'_> {
     ghost use Rattle.tables.specs.Lists.{data_of};
 
     ghost kinds = { table_sets };
-    ghost sizes = { λ t. t.counts };
+
+    ghost counts = { λ t. t.counts };
+
     ghost entry = { λ t. (data_of t).entry };
 
     fn entry_in(&self, t: usize, k: usize, y: usize, i: usize, j: usize, s: usize) -> u64 {
@@ -203,7 +212,9 @@ impl Entries for Plan<'_> {
     ghost use Rattle.tables.specs.Lists.{entry_of};
 
     ghost kinds = { column_sets };
-    ghost sizes = { λ p. p.counts };
+
+    ghost counts = { λ p. p.counts };
+
     ghost entry = { λ p t y i j s. entry_of p (index t y i j s) };
 
     fn entry_in(&self, t: usize, k: usize, y: usize, i: usize, j: usize, s: usize) -> u64 {

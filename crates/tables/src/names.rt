@@ -1,4 +1,5 @@
-// The tables' numbers: in the data list, and in the plan.
+// The tables' numbers: in the data list, and in the plan. Numbers and no enum: they are places in the fixed tables (index sets, ranges, starts) of document
+// 01, and the walks over all tables count with them.
 pub const RATE: usize = 0;
 
 pub const WEIGHT: usize = 1;

@@ -8,7 +8,8 @@ ghost use Rattle.tables.specs.Layout.{Counted, Small, Inside};
 use model::{Counts, FAMILY_COUNT, Family, Shape};
 use sums::Box;
 
-// The codes of the index sets, in the order of the definitions (`sets`).
+// The codes of the index sets, in the order of the definitions (`sets`). Numbers and no enum: document 01 asks for a fixed table of families that holds the
+// code of each one's index set, and the definitions look the set up by it.
 pub const BY_YEAR_ZONE_SLICE: usize = 0; // y, z, s
 
 pub const BY_LINK_SLICE: usize = 1; // y, z, z2, s
