@@ -10,7 +10,9 @@ use Rattle.model.specs.Data.{Data, Table, tables, table_boxes, most_counts, data
 use Rattle.model.specs.Columns.{column_sets, column_boxes}
 use Rattle.model.specs.Families.{row_boxes}
 
--- counts that passed refusal 1
+-- Counts that passed refusal 1. The fact is asked of who hands over bare counts, and is no field of a struct round them: `Counts` is the record of the
+-- definitions, which `read` makes of any list. Tried with a struct (`slices_of`, and `peaks` as its caller): no clause got shorter, and each answer over the
+-- data's counts had to be turned by an equation. Who holds Tables, Plan or Multipliers shows the fact with nothing.
 pub record Counted (c : Counts) : Type 0 where
   pub some_zones : 1 ≤ c.zones
   pub some_plants : 1 ≤ c.plants

@@ -199,6 +199,7 @@ pub fn family_at(k: usize) -> Family
     FAMILIES[k]
 }
 
+// `Counted` is asked here and below: the reason stands beside it (specs/Layout.antt).
 // S = Q·D·T
 pub fn slices_of(c: Counts) -> usize
     requires { Counted c }
@@ -354,7 +355,8 @@ pub fn inside_of(c: Counts, k: usize, y: usize, i: usize, j: usize, s: usize) ->
     ((y * b.firsts + i) * b.seconds + j) * b.slices + s
 }
 
-// The counts and the family sizes that follow from them.
+// The counts and the family sizes that follow from them. A loop: tried with `array::from_fn`, whose contract leaves the closure's state open at each call;
+// the proof that it stays the counts did not close.
 pub fn shape_of(c: Counts) -> Shape
     requires { Counted c }
     ensures { result ≡ shape_of c }

@@ -90,6 +90,8 @@ const COLUMN_SETS: [usize; COLUMN_KIND_COUNT] = [
     BY_LINK, // 13 total
 ];
 
+// Two readers of two fixed tables, here and as `has_constant` and `most_count` elsewhere: each has its definition's name and range, and one for all would be
+// handed the fixed table, which no caller has.
 // The code of the index set of a table of the data.
 pub fn table_set(t: usize) -> usize
     requires { t < table_count }
@@ -106,6 +108,7 @@ pub fn column_set(k: usize) -> usize
     COLUMN_SETS[k]
 }
 
+// `Counted` is asked here and below: the reason stands beside it (specs/Layout.antt).
 // The index set of a table of the data.
 pub fn table_box(c: Counts, t: usize) -> Box
     requires { Counted c × (t < table_count) }
@@ -138,7 +141,8 @@ fn starts_from(c: Counts, kinds: &[usize], from: usize) -> Starts
     starts
 }
 
-// The starts of the data list's tables; the counts stand before them.
+// The starts of the data list's tables; the counts stand before them. Here and in `column_starts` one function serves both, `starts_from`; what is left is
+// whose index sets they are, and from which place.
 pub fn table_starts(c: Counts) -> Starts
     requires { Counted c }
     ensures { (length result ≡ table_count + 1) × ((t : ℕ) → t ≤ table_count → get_or result t 0 ≡ start_from c table_sets 7 t) }
