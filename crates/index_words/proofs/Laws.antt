@@ -33,6 +33,8 @@ module _ (c : Counts) (s : ℕ) {p : Slice} (e : p ≡ slice_at c s) (h : s ≤ 
   unfolding slice_at
   low-hour = rw e (omega (arith, mod-le s c.hours))
 
+pub ruleset low_parts = (low-season, low-day, low-hour)
+
 -- the indices before one, and it behind them
 pub one_more : (c : Counts) (r : Index) (meanings : List Meaning) (i : ℕ) → i < length meanings
     → indices_words c r (take (i + 1) meanings) ≡ indices_words c r (take i meanings) ++ index_words c r (get_or meanings i Year)

@@ -71,6 +71,7 @@ struct Indices {
 
 impl Indices {
     // The slice by its season, its day and its hour.
+    #[tactic(auto, using(crate::proofs::Laws::low_parts))]
     fn say_slice(&self, line: &mut Line<ROOM>)
         ensures { line.new ≡ added room line.old (slice_words self.now.counts self.now.place.slice) }
     {
