@@ -15,6 +15,7 @@ use Rattle.tables.proofs.Laws.{small-set}
 use Rattle.sums.specs.declared.Place.{Place}
 use Rattle.places.specs.declared.Slice.{Slice}
 use Rattle.places.specs.Numbers.{slice_at}
+use Rattle.writer.proofs.Laws.{added-none, added_joined, list-found, list-past}
 use Rattle.index_words.specs.declared.Meaning.{Meaning}
 use Rattle.index_words.specs.declared.Meaning.TheVariants.{Year}
 use Rattle.index_words.specs.Indices.{index_words, indices_words, Low}
@@ -41,6 +42,10 @@ pub one_more : (c : Counts) (r : Index) (meanings : List Meaning) (i : ℕ) → 
 unfolding indices_words
 one_more c r meanings i h =
     rw (add-one i, take-suc meanings i Year h, flat_map-append) (ap (λ (l : List ℕ). indices_words c r (take i meanings) ++ l) (append-nil _))
+
+pub ruleset several = (added-none, added_joined, one_more)
+
+pub ruleset listed = (added-none, list-found, list-past)
 
 -- a member of an index set has low indices
 pub low-inside : {c : Counts} → Counted c → (k : ℕ) (p : Place) → Inside c k p.year p.first p.second p.slice → Low p

@@ -101,6 +101,7 @@ impl Indices {
     }
 
     // Several indices, one behind another.
+    #[tactic(auto, unfolding(crate::specs::Indices::indices_words), using(crate::proofs::Laws::several))]
     fn say_all(&self, line: &mut Line<ROOM>, meanings: &[Meaning])
         ensures { line.new ≡ added room line.old (indices_words self.now.counts (index_of self.now.place) meanings.now) }
     {
@@ -110,6 +111,7 @@ impl Indices {
     }
 
     // The indices of the set of number `set`.
+    #[tactic(auto, unfolding(crate::specs::Indices::indices_words), using(crate::proofs::Laws::listed))]
     fn say_set(&self, line: &mut Line<ROOM>, sets: &[&[Meaning]], set: usize)
         ensures { line.new ≡ added room line.old (indices_words self.now.counts (index_of self.now.place) (get_or (map (λ meanings. meanings.now) sets.now) set [])) }
     {
