@@ -121,7 +121,7 @@ impl Indices {
     }
 }
 
-// The indices of a member of the index set of a code.
+// The indices of a member of the index set of a code. `Counted` is asked: the reason stands beside it (tables/specs/Layout.antt).
 #[tactic(auto, unfolding(crate::specs::Indices::place_words))]
 pub fn say_place(line: &mut Line<ROOM>, c: Counts, set: usize, p: Place)
     requires { Counted c × Low p }
