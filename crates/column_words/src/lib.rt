@@ -1,11 +1,13 @@
 // Columns in words.
 #![tactic(auto)]
 
-ghost use Rattle.std.specs.Prelude.{◌≡◌};
-ghost use Rattle.sums.specs.Index.{Member, index_of};
+ghost use Rattle.std.specs.Prelude.{◌≡◌, ◌<◌};
+ghost use Rattle.sums.specs.Span.{fine};
+ghost use Rattle.sums.specs.Index.{count, index_of};
 ghost use Rattle.model.specs.Data.{read};
 ghost use Rattle.model.specs.Columns.{column_boxes};
-ghost use Rattle.tables.specs.Layout.{Counted};
+ghost use Rattle.model.specs.Tests.{data_fault};
+ghost use Rattle.places.specs.Numbers.{Numbered};
 ghost use Rattle.writer.specs.Writing.{room, added};
 ghost use Rattle.sentences.specs.Asked.{OfColumn};
 ghost use Rattle.sentences.specs.Sentences.{column_words, priced_words, column_off_scale_words, underpriced_words};
@@ -13,7 +15,6 @@ ghost use Rattle.sentences.specs.Sentences.{column_words, priced_words, column_o
 use data_tests::counts_of;
 use figures::{ColumnFigures, column_figures};
 use index_words::say_place;
-use model::Counts;
 use places::column_place;
 use sentences::{say_amount, say_balance};
 use sums::Place;
@@ -38,16 +39,20 @@ const COLUMN_NAMES: [&str; 14] = [
     "total",
 ];
 
-// A column's number, table and indices.
-fn say_column(line: &mut Line<ROOM>, c: Counts, column: usize, p: Place)
-    requires { Counted c × Member (column_boxes c) (index_of p) }
-    ensures { line.new ≡ added room line.old (column_words c column (index_of p)) }
+// A column's number, table and indices. Its index set's member is returned.
+fn say_column(line: &mut Line<ROOM>, data: &[u32], column: usize) -> Place
+    requires { (data_fault «data».now ≡ fine) × (column < count (column_boxes (read «data».now).counts)) }
+    ensures member { Numbered (column_boxes (read «data».now).counts) column result }
+    ensures said { line.new ≡ added room line.old (column_words (read «data».now).counts column (index_of result)) }
 {
+    let c = counts_of(data);
+    let p = column_place(c, column);
     let set = column_set(p.kind);
     line.say_with(b"column ", column as u64);
     line.say(b", ");
     line.say_name(&COLUMN_NAMES, p.kind);
     say_place(line, c, set, p);
+    p
 }
 
 // What a column's terms of each sign come to, and its price.
@@ -67,10 +72,8 @@ pub fn say_column_off_scale(line: &mut Line<ROOM>, data: &[u32], multipliers: &[
     requires { OfColumn «data».now multipliers.now column }
     ensures { line.new ≡ added room line.old (column_off_scale_words (read «data».now) multipliers.now column) }
 {
-    let c = counts_of(data);
-    let p = column_place(c, column);
+    let p = say_column(line, data, column);
     let sums = column_figures(data, multipliers, p);
-    say_column(line, c, column, p);
     say_priced(line, sums);
     line.say(b", and neither sum of terms may be more than 2^62 - 1");
 }
@@ -80,10 +83,8 @@ pub fn say_underpriced(line: &mut Line<ROOM>, data: &[u32], multipliers: &[i64],
     requires { OfColumn «data».now multipliers.now column }
     ensures { line.new ≡ added room line.old (underpriced_words (read «data».now) multipliers.now column) }
 {
-    let c = counts_of(data);
-    let p = column_place(c, column);
+    let p = say_column(line, data, column);
     let sums = column_figures(data, multipliers, p);
-    say_column(line, c, column, p);
     say_priced(line, sums);
     line.say(b", so it is underpriced by ");
     say_balance(line, sums.short);

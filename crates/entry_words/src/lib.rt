@@ -3,8 +3,7 @@
 
 ghost use Rattle.std.specs.Prelude.{◌≡◌, ◌≤◌};
 ghost use Rattle.sums.specs.Index.{Member, index_of};
-ghost use Rattle.model.specs.Data.{table_boxes, read};
-ghost use Rattle.tables.specs.Layout.{Counted};
+ghost use Rattle.model.specs.Data.{table_boxes, place_of, read};
 ghost use Rattle.writer.specs.Writing.{room, added};
 ghost use Rattle.sentences.specs.Asked.{OfCount, OfEntry};
 ghost use Rattle.sentences.specs.Sentences.{entry_words, figure_words, shape_words, scale_words, out_of_range_words, storage_words};
@@ -12,7 +11,6 @@ ghost use Rattle.sentences.specs.Sentences.{entry_words, figure_words, shape_wor
 use data_tests::{counts_of, most_count};
 use figures::{EntryFigures, entry_figures};
 use index_words::{say_counted, say_place};
-use model::Counts;
 use places::entry_place;
 use sentences::say_range;
 use sums::Place;
@@ -77,16 +75,20 @@ const TABLE_NAMES: [&str; 48] = [
     "line annuity",
 ];
 
-// An entry's place in the list, table and indices.
-fn say_entry(line: &mut Line<ROOM>, c: Counts, entry: usize, p: Place)
-    requires { Counted c × Member (table_boxes c) (index_of p) }
-    ensures { line.new ≡ added room line.old (entry_words c entry (index_of p)) }
+// An entry's place in the list, table and indices. Its index set's member is returned.
+fn say_entry(line: &mut Line<ROOM>, data: &[u32], entry: usize) -> Place
+    requires { OfEntry «data».now entry }
+    ensures member { Member (table_boxes (read «data».now).counts) (index_of result) × (place_of (read «data».now).counts (index_of result) ≡ entry) }
+    ensures said { line.new ≡ added room line.old (entry_words (read «data».now).counts entry (index_of result)) }
 {
+    let c = counts_of(data);
+    let p = entry_place(c, entry);
     let set = table_set(p.kind);
     line.say_with(b"entry ", entry as u64);
     line.say(b" of DATA, ");
     line.say_name(&TABLE_NAMES, p.kind);
     say_place(line, c, set, p);
+    p
 }
 
 #[tactic(auto, unfolding(sentences::specs::Sentences::figure_words))]
@@ -101,11 +103,9 @@ pub fn say_out_of_range(line: &mut Line<ROOM>, data: &[u32], entry: usize)
     requires { OfEntry «data».now entry }
     ensures { line.new ≡ added room line.old (out_of_range_words (read «data».now) entry) }
 {
-    let c = counts_of(data);
-    let p = entry_place(c, entry);
-    let range = entry_figures(data, p, entry);
-    say_entry(line, c, entry, p);
-    say_figures(line, range);
+    let p = say_entry(line, data, entry);
+    let figures = entry_figures(data, p, entry);
+    say_figures(line, figures);
 }
 
 // A battery with VRE set.
@@ -123,7 +123,7 @@ pub fn say_shape(line: &mut Line<ROOM>, data: &[u32], count: usize)
     ensures { line.new ≡ added room line.old (shape_words «data».now count) }
 {
     let is = number_at(data, count);
-    let most = most_count(count) as u64;
+    let most = u64::from(most_count(count));
     line.say_with(b"entry ", count as u64);
     line.say(b" of DATA, the number of ");
     line.say_name(&COUNT_NAMES, count);
@@ -135,5 +135,5 @@ pub fn say_scale(line: &mut Line<ROOM>, scale: u32)
     ensures { line.new ≡ added room line.old (scale_words scale) }
 {
     line.say(b"N");
-    say_range(line, scale as u64, 1, 1000);
+    say_range(line, u64::from(scale), 1, 1000);
 }

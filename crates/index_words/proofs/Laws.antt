@@ -15,6 +15,7 @@ use Rattle.tables.proofs.Laws.{small-set}
 use Rattle.sums.specs.declared.Place.{Place}
 use Rattle.places.specs.declared.Slice.{Slice}
 use Rattle.places.specs.Numbers.{slice_at}
+use Rattle.writer.proofs.Laws.{added-none, added_joined, list-found, list-past}
 use Rattle.index_words.specs.declared.Meaning.{Meaning}
 use Rattle.index_words.specs.declared.Meaning.TheVariants.{Year}
 use Rattle.index_words.specs.Indices.{index_words, indices_words, Low}
@@ -33,12 +34,18 @@ module _ (c : Counts) (s : ℕ) {p : Slice} (e : p ≡ slice_at c s) (h : s ≤ 
   unfolding slice_at
   low-hour = rw e (omega (arith, mod-le s c.hours))
 
+pub ruleset low_parts = (low-season, low-day, low-hour)
+
 -- the indices before one, and it behind them
 pub one_more : (c : Counts) (r : Index) (meanings : List Meaning) (i : ℕ) → i < length meanings
     → indices_words c r (take (i + 1) meanings) ≡ indices_words c r (take i meanings) ++ index_words c r (get_or meanings i Year)
 unfolding indices_words
 one_more c r meanings i h =
     rw (add-one i, take-suc meanings i Year h, flat_map-append) (ap (λ (l : List ℕ). indices_words c r (take i meanings) ++ l) (append-nil _))
+
+pub ruleset several = (added-none, added_joined, one_more)
+
+pub ruleset listed = (added-none, list-found, list-past)
 
 -- a member of an index set has low indices
 pub low-inside : {c : Counts} → Counted c → (k : ℕ) (p : Place) → Inside c k p.year p.first p.second p.slice → Low p

@@ -60,61 +60,76 @@ pub fn say_counted(line: &mut Line<ROOM>, words: &[u8], index: usize)
     line.say_with(words, index as u64 + 1);
 }
 
-// A slice by its season, its day and its hour.
-fn say_slice(line: &mut Line<ROOM>, c: Counts, s: usize)
-    requires { Counted c × (s ≤ 1000) }
-    ensures { line.new ≡ added room line.old (slice_words c s) }
-{
-    let slice = slice_at(c, s);
-    say_counted(line, b", season ", slice.season);
-    say_counted(line, b", day ", slice.day);
-    say_counted(line, b", hour ", slice.hour);
+// A member's indices, to each of which 1 can be added in a machine word, and the counts by which a slice has its season, day and hour.
+#[derive(Clone, Copy)]
+struct Indices {
+    counts: Counts,
+    place: Place,
+    ghost counted: { Counted counts },
+    ghost low: { Low place },
 }
 
-// An index, by what it stands for.
-#[tactic(auto, unfolding(crate::specs::Indices::index_words))]
-fn say_index(line: &mut Line<ROOM>, c: Counts, p: Place, meaning: Meaning)
-    requires { Counted c × Low p }
-    ensures { line.new ≡ added room line.old (index_words c (index_of p) meaning) }
-{
-    match meaning {
-        Year => say_counted(line, b", year ", p.year),
-        Zone => say_counted(line, b", zone ", p.first),
-        SecondZone => say_counted(line, b", to zone ", p.second),
-        Plant => say_counted(line, b", plant ", p.first),
-        Fuel => say_counted(line, b", fuel ", p.second),
-        Slice => say_slice(line, c, p.slice),
-        Season => say_counted(line, b", season ", p.slice),
-        LoadSeason => say_counted(line, b", season ", p.first),
-        LoadDay => say_counted(line, b", day ", p.second),
+impl Indices {
+    // The slice by its season, its day and its hour.
+    #[tactic(auto, using(crate::proofs::Laws::low_parts))]
+    fn say_slice(&self, line: &mut Line<ROOM>)
+        ensures { line.new ≡ added room line.old (slice_words self.now.counts self.now.place.slice) }
+    {
+        let slice = slice_at(self.counts, self.place.slice);
+        say_counted(line, b", season ", slice.season);
+        say_counted(line, b", day ", slice.day);
+        say_counted(line, b", hour ", slice.hour);
+    }
+
+    // An index, by what it stands for.
+    #[tactic(auto, unfolding(crate::specs::Indices::index_words))]
+    fn say(&self, line: &mut Line<ROOM>, meaning: Meaning)
+        ensures { line.new ≡ added room line.old (index_words self.now.counts (index_of self.now.place) meaning) }
+    {
+        let p = self.place;
+        match meaning {
+            Year => say_counted(line, b", year ", p.year),
+            Zone => say_counted(line, b", zone ", p.first),
+            SecondZone => say_counted(line, b", to zone ", p.second),
+            Plant => say_counted(line, b", plant ", p.first),
+            Fuel => say_counted(line, b", fuel ", p.second),
+            Slice => self.say_slice(line),
+            Season => say_counted(line, b", season ", p.slice),
+            LoadSeason => say_counted(line, b", season ", p.first),
+            LoadDay => say_counted(line, b", day ", p.second),
+        }
+    }
+
+    // Several indices, one behind another.
+    #[tactic(auto, unfolding(crate::specs::Indices::indices_words), using(crate::proofs::Laws::several))]
+    fn say_all(&self, line: &mut Line<ROOM>, meanings: &[Meaning])
+        ensures { line.new ≡ added room line.old (indices_words self.now.counts (index_of self.now.place) meanings.now) }
+    {
+        for meaning in meanings {
+            self.say(line, *meaning);
+        }
+    }
+
+    // The indices of the set of number `set`.
+    #[tactic(auto, unfolding(crate::specs::Indices::indices_words), using(crate::proofs::Laws::listed))]
+    fn say_set(&self, line: &mut Line<ROOM>, sets: &[&[Meaning]], set: usize)
+        ensures { line.new ≡ added room line.old (indices_words self.now.counts (index_of self.now.place) (get_or (map (λ meanings. meanings.now) sets.now) set [])) }
+    {
+        if let Some(meanings) = sets.get(set) {
+            self.say_all(line, meanings);
+        }
     }
 }
 
-// Several indices, one behind another.
-fn say_indices(line: &mut Line<ROOM>, c: Counts, p: Place, meanings: &[Meaning])
-    requires { Counted c × Low p }
-    ensures { line.new ≡ added room line.old (indices_words c (index_of p) meanings.now) }
-{
-    for meaning in meanings {
-        say_index(line, c, p, *meaning);
-    }
-}
-
-// The indices of the set of number `set`.
-fn say_set(line: &mut Line<ROOM>, c: Counts, p: Place, sets: &[&[Meaning]], set: usize)
-    requires { Counted c × Low p }
-    ensures { line.new ≡ added room line.old (indices_words c (index_of p) (get_or (map (λ meanings. meanings.now) sets.now) set [])) }
-{
-    if let Some(meanings) = sets.get(set) {
-        say_indices(line, c, p, meanings);
-    }
-}
-
-// The indices of a member of the index set of a code.
+// The indices of a member of the index set of a code. `Counted` is asked: the reason stands beside it (tables/specs/Layout.antt).
 #[tactic(auto, unfolding(crate::specs::Indices::place_words))]
 pub fn say_place(line: &mut Line<ROOM>, c: Counts, set: usize, p: Place)
     requires { Counted c × Low p }
     ensures { line.new ≡ added room line.old (place_words c set (index_of p)) }
 {
-    say_set(line, c, p, &SETS, set);
+    let indices = Indices {
+        counts: c,
+        place: p,
+    };
+    indices.say_set(line, &SETS, set);
 }

@@ -113,15 +113,18 @@ module _ {boxes : List Box} {from : ℕ} {at : List ℕ} (s : Starts boxes from 
   pub is-kind : {k : ℕ} → k + 1 < length at → k < length boxes
   is-kind h = omega (arith, s.long)
 
-  module _ {k n : ℕ} {b : Box} (e : b ≡ box_of boxes k) (l : k < length boxes) (h : get_or at k 0 ≤ n) where
-    -- a number from the start of kind k on and below the next start is that of a member of kind k
-    pub in-kind : n < get_or at (k + 1) 0 → n - get_or at k 0 < volume b
-    in-kind u = rw e (omega (arith, s.is k (omega arith), s.is (k + 1) (omega arith), sum-one-more k (λ i. volume (box_of boxes i))))
+  -- a number from the start of kind k on and below the next start is that of a member of kind k, whose index set is b
+  module _ {k n : ℕ} (found : (k + 1 < length at) × ((get_or at k 0 ≤ n) × (n < get_or at (k + 1) 0))) {b : Box} (e : k < length boxes → b ≡ box_of boxes k) where
+    pub in-kind : n - get_or at k 0 < volume b
+    in-kind =
+        rw (e (is-kind found.0))
+        (omega (arith, found, s.is k (omega (arith, is-kind found.0)), s.is (k + 1) (omega (arith, is-kind found.0)), sum-one-more k (λ i. volume (box_of boxes i))))
 
     pub numbered_is : {p : Place} → InBox b k (n - get_or at k 0) p → Member boxes (index_of p) × (from + number boxes (index_of p) ≡ n)
     numbered_is {p} m =
-        let w : inside (box_of boxes k) p.year p.first p.second p.slice ≡ n - get_or at k 0 = rw (← e) m.number in
-        rw m.kind ((l, rw (← e) m.year, rw (← e) m.first, rw (← e) m.second, rw (← e) m.slice), omega (arith, w, s.is k (omega arith)))
+        let l = is-kind found.0 in
+        let w : inside (box_of boxes k) p.year p.first p.second p.slice ≡ n - get_or at k 0 = rw (← e l) m.number in
+        rw m.kind ((l, rw (← e l) m.year, rw (← e l) m.first, rw (← e l) m.second, rw (← e l) m.slice), omega (arith, w, found.1.0, s.is k (omega (arith, l))))
 
 -- the starts and the index sets of the rows, of the columns and of the tables, in this form
 

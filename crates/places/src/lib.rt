@@ -52,6 +52,8 @@ fn member_at(b: Box, kind: usize, m: usize) -> Place
     }
 }
 
+// The four below ask `Counted` of counts that stand bare: the reason stands beside it (tables/specs/Layout.antt).
+
 // The row of a number.
 pub fn row_place(c: Counts, row: usize) -> Place
     requires { Counted c × (row < count (row_boxes c)) }

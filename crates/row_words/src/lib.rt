@@ -1,12 +1,14 @@
 // Rows in words.
 #![tactic(auto)]
 
-ghost use Rattle.std.specs.Prelude.{◌≡◌};
-ghost use Rattle.sums.specs.Index.{Member, index_of};
+ghost use Rattle.std.specs.Prelude.{◌≡◌, ◌<◌};
+ghost use Rattle.sums.specs.Span.{fine};
+ghost use Rattle.sums.specs.Index.{count, index_of};
 ghost use Rattle.model.specs.Data.{read};
 ghost use Rattle.model.specs.Columns.{entries};
 ghost use Rattle.model.specs.Families.{row_boxes};
-ghost use Rattle.tables.specs.Layout.{Counted};
+ghost use Rattle.model.specs.Tests.{data_fault};
+ghost use Rattle.places.specs.Numbers.{Numbered};
 ghost use Rattle.writer.specs.Writing.{room, added};
 ghost use Rattle.sentences.specs.Asked.{OfRow, OfMultiplier};
 ghost use Rattle.sentences.specs.Sentences.{equation_words, row_words, sums_words, off_scale_words, broken_words, multiplier_words};
@@ -15,7 +17,6 @@ use data_tests::counts_of;
 use duals::multiplier_in;
 use figures::row_figures;
 use index_words::say_place;
-use model::Counts;
 use places::row_place;
 use row_sums::Sides;
 use sentences::{say_amount, say_signed};
@@ -63,21 +64,25 @@ fn say_equation(line: &mut Line<ROOM>, equation: u32)
     if equation == 0 {
         line.say(b", ");
     } else {
-        line.say_with(b", equation (", equation as u64);
+        line.say_with(b", equation (", u64::from(equation));
         line.say(b") ");
     }
 }
 
-// A row's number, equation with its name, and indices.
-fn say_row(line: &mut Line<ROOM>, c: Counts, row: usize, p: Place)
-    requires { Counted c × Member (row_boxes c) (index_of p) }
-    ensures { line.new ≡ added room line.old (row_words c row (index_of p)) }
+// A row's number, equation with its name, and indices. Its index set's member is returned.
+fn say_row(line: &mut Line<ROOM>, data: &[u32], row: usize) -> Place
+    requires { (data_fault «data».now ≡ fine) × (row < count (row_boxes (read «data».now).counts)) }
+    ensures member { Numbered (row_boxes (read «data».now).counts) row result }
+    ensures said { line.new ≡ added room line.old (row_words (read «data».now).counts row (index_of result)) }
 {
+    let c = counts_of(data);
+    let p = row_place(c, row);
     let f = family_at(p.kind);
     line.say_with(b"row ", row as u64);
     say_equation(line, f.equation);
     line.say_name(&FAMILY_NAMES, p.kind);
     say_place(line, c, f.set, p);
+    p
 }
 
 // What a row's terms of each sign come to.
@@ -95,10 +100,8 @@ pub fn say_off_scale(line: &mut Line<ROOM>, data: &[u32], scale: u32, plan: &[u3
     requires { OfRow «data».now plan.now row }
     ensures { line.new ≡ added room line.old (off_scale_words (read «data».now) scale (entries (read «data».now) plan.now) row) }
 {
-    let c = counts_of(data);
-    let p = row_place(c, row);
+    let p = say_row(line, data, row);
     let sums = row_figures(data, scale, plan, p);
-    say_row(line, c, row, p);
     say_sums(line, sums);
     line.say(b", and neither may be more than 2^62 - 1");
 }
@@ -108,11 +111,9 @@ pub fn say_broken(line: &mut Line<ROOM>, data: &[u32], scale: u32, plan: &[u32],
     requires { OfRow «data».now plan.now row }
     ensures { line.new ≡ added room line.old (broken_words (read «data».now) scale (entries (read «data».now) plan.now) row) }
 {
-    let c = counts_of(data);
-    let p = row_place(c, row);
+    let p = say_row(line, data, row);
     let f = family_at(p.kind);
     let sums = row_figures(data, scale, plan, p);
-    say_row(line, c, row, p);
     say_sums(line, sums);
     line.say_either(
         f.equal,
@@ -126,10 +127,8 @@ pub fn say_multiplier(line: &mut Line<ROOM>, data: &[u32], multipliers: &[i64], 
     requires { OfMultiplier «data».now multipliers.now row }
     ensures { line.new ≡ added room line.old (multiplier_words (read «data».now) multipliers.now row) }
 {
-    let c = counts_of(data);
-    let p = row_place(c, row);
+    let p = say_row(line, data, row);
     let f = family_at(p.kind);
-    say_row(line, c, row, p);
     line.say(b": it is ");
     say_signed(line, multiplier_in(multipliers, row));
     line.say_either(

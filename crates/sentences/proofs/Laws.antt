@@ -1,5 +1,5 @@
 -- What stands of the data where a refusal names a place of them. Assumes nothing.
-use mathlib.Core.Path.{◌≡◌, subst}
+use mathlib.Core.Path.{◌≡◌, sym, subst}
 use mathlib.Core.List.{List}
 use Prim.Native.Nat.{ℕ, ◌≤◌, ◌<◌}
 use native.Mathlib.Omega.{arith}
@@ -10,6 +10,8 @@ use Rattle.model.specs.declared.Counts.{Counts}
 use Rattle.model.specs.Data.{counts_of, read}
 use Rattle.model.specs.Tests.{data_fault}
 use Rattle.tables.specs.Layout.{Counted}
+use Rattle.sums.specs.declared.Place.{Place}
+use Rattle.places.specs.Numbers.{Numbered}
 use Rattle.data_tests.proofs.Passed.{passed-counts, counts-sound, counts-read}
 use Rattle.sentences.specs.Asked.{OfPlant}
 
@@ -17,6 +19,10 @@ use Rattle.sentences.specs.Asked.{OfPlant}
 pub numbered-asked : (l : List ℕ) {c : Counts} → data_fault l ≡ fine → c ≡ counts_of l → (boxes : Counts → List Box) {n : ℕ} → n < count (boxes (read l).counts)
     → Counted c × (n < count (boxes c))
 numbered-asked l s e boxes {n} h = (counts-sound l s e, subst (λ (d : Counts). n < count (boxes d)) (counts-read l e) h)
+
+-- and what has a number at the counts that the code holds has it at the data's
+pub numbered-read : (l : List ℕ) {c : Counts} → c ≡ counts_of l → (boxes : Counts → List Box) {n : ℕ} {p : Place} → Numbered (boxes c) n p → Numbered (boxes (read l).counts) n p
+numbered-read l e boxes {n} {p} m = subst (λ (d : Counts). Numbered (boxes d) n p) (sym (counts-read l e)) m
 
 -- a plant's number can be counted from 1 in a machine word
 pub plant-low : (l : List ℕ) (g : ℕ) → OfPlant l g → g ≤ 1000

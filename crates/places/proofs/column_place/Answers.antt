@@ -13,17 +13,13 @@ pub member_at-requires : goal.member_at-requires
 unfolding column_boxes
 member_at-requires c =
     let starts = column-starts-are c.args.c c.column_starts-all.result c.column_starts-all.ensures in
-    let kind = c.kind_of-k.ensures in
-    let below = is-kind starts kind.0 in
-    in-kind starts (column-box c.args.c below c.column_box-b.ensures.0) below kind.1.0 kind.1.1
+    in-kind starts c.kind_of-k.ensures (λ below. column-box c.args.c below c.column_box-b.ensures.0)
 
 pub returns : goal.returns
 unfolding column_boxes
 returns c =
     let starts = column-starts-are c.args.c c.column_starts-all.result c.column_starts-all.ensures in
-    let kind = c.kind_of-k.ensures in
-    let below = is-kind starts kind.0 in
-    let m = numbered_is starts (column-box c.args.c below c.column_box-b.ensures.0) below kind.1.0 c.member_at.ensures in
+    let m = numbered_is starts c.kind_of-k.ensures (λ below. column-box c.args.c below c.column_box-b.ensures.0) c.member_at.ensures in
     (m.0, omega (arith, m.1))
 
 pub offset_bounds-starts-k : goal.offset_bounds-starts-k
