@@ -2,7 +2,7 @@
 use Rattle.std.specs.Prelude.{Result, Ok, Err}
 use Rattle.model.specs.Calls.{outcome}
 use mathlib.Core.Path.{◌≡◌, refl, sym, ap, ◌∙◌}
-use mathlib.Core.Bool.{Bool}
+use mathlib.Core.Bool.{true, false}
 use mathlib.Core.List.{List}
 use Prim.Native.Nat.{ℕ, ◌≤◌, ◌<◌}
 use native.Mathlib.Omega.{arith}
@@ -75,9 +75,13 @@ module _ (l : List ℕ) where
   unfolding head_fault unless
   head-long h = rw (le-leb 7 (length l) h)
 
-  pub count-tested : (i : ℕ) {most : ℕ} {ok : Bool} → most ≡ get_or most_counts i 0 → ok ≡ within (1 to most) (get_or l i 0) → count_fault l i ≡ unless ok (Shape i)
-  unfolding count_fault
-  count-tested i e q = rw (q, e)
+  pub count-passed : (i : ℕ) → within (1 to get_or most_counts i 0) (get_or l i 0) ≡ true → count_fault l i ≡ fine
+  unfolding count_fault unless
+  count-passed i e = rw e
+
+  pub count-refused : (i : ℕ) → within (1 to get_or most_counts i 0) (get_or l i 0) ≡ false → count_fault l i ≡ fault (Shape i)
+  unfolding count_fault unless
+  count-refused i e = rw e
 
   -- the length that the counts give is where the last table ends
   pub whole_is : {c : Counts} {n : ℕ} → c ≡ counts_of l → n ≡ start_from c table_sets 7 table_count → n ≡ data_length (counts_of l)

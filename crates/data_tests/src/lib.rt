@@ -3,7 +3,7 @@
 
 ghost use Rattle.std.specs.Prelude.{◌≡◌, ◌&&◌, ◌≤◌, ◌<◌, length, get_or};
 ghost use Rattle.sums.specs.Span.{fine, or_else};
-ghost use Rattle.model.specs.Data.{counts_of, most_counts, is_battery, is_vre};
+ghost use Rattle.model.specs.Data.{counts_of, most_counts, within, ◌to◌, is_battery, is_vre};
 ghost use Rattle.model.specs.Tests.{head_fault, counts_fault, length_fault, entries_fault, storage_fault, data_fault};
 ghost use Rattle.model.specs.Calls.{outcome};
 ghost use Rattle.tables.specs.Lists.{data_of};
@@ -17,6 +17,7 @@ use tables::starts::table_starts;
 // The largest that each count may be.
 const MOST_COUNTS: [u32; 7] = [8, 32, 8, 4, 4, 24, 10];
 
+// Its shape is that of `table_set` and `column_set`: each gives a fixed table the name of the definitions. One lookup for all would only ask for the table.
 pub fn most_count(i: usize) -> u32
     requires { i < 7 }
     ensures { result ≡ get_or most_counts i 0 }
@@ -40,21 +41,27 @@ pub fn counts_of(data: &[u32]) -> Counts
     }
 }
 
+// Whether number `i` is 1 or more and as large as that count may be.
+fn is_count(data: &[u32], i: usize) -> bool
+    requires { (i < 7) × (7 ≤ length «data».now) }
+    ensures { result ≡ within (1 to get_or most_counts i 0) (get_or «data».now i 0) }
+{
+    let r = Range {
+        least: 1,
+        most: most_count(i),
+    };
+    in_range(r, data[i])
+}
+
 // Refusal 1.
 fn test_counts(data: &[u32]) -> Result<(), Refusal>
     requires { 7 ≤ length «data».now }
     ensures { result ≡ outcome (counts_fault «data».now) }
 {
-    for i in 0..7 {
-        let r = Range {
-            least: 1,
-            most: most_count(i),
-        };
-        if !in_range(r, data[i]) {
-            return Err(Refusal::Shape(i));
-        }
+    match (0..7).find(|&i| !is_count(data, i)) {
+        Some(i) => Err(Refusal::Shape(i)),
+        None => Ok(()),
     }
-    Ok(())
 }
 
 // Refusal 2, the length that the counts give.
@@ -105,12 +112,10 @@ fn is_vre_battery(tables: &Tables, g: usize) -> bool
 fn test_storage(tables: &Tables) -> Result<(), Refusal>
     ensures { result ≡ outcome (storage_fault (data_of tables.now)) }
 {
-    for g in 0..tables.counts.plants {
-        if is_vre_battery(tables, g) {
-            return Err(Refusal::Storage(g));
-        }
+    match (0..tables.counts.plants).find(|&g| is_vre_battery(tables, g)) {
+        Some(g) => Err(Refusal::Storage(g)),
+        None => Ok(()),
     }
-    Ok(())
 }
 
 // Refusals 3 and 16: all entries before any battery.

@@ -1,5 +1,5 @@
 // Families 12, 15 to 20 and 25: the constants of the rows of the fleet.
-#![tactic(auto)]
+#![tactic(auto, unfolding(constants::specs::Constants::constant_of))]
 
 ghost use Rattle.std.specs.Prelude.{◌≡◌, ◌<◌};
 ghost use Rattle.model.specs.Families.{row};
@@ -9,7 +9,7 @@ ghost use Rattle.tables.specs.Lists.{data_of};
 use constants::{Constant, NONE};
 use tables::lists::{Entries, Tables};
 use tables::names::{
-    BUILD_LIMIT, ENERGY_CAPACITY, GEN_CAP, KIND, MAX_CAPITAL, MAX_FUEL, MAX_NEW_CAP, SYSTEM_CAP,
+    BUILD_LIMIT, ENERGY_CAPACITY, GEN_CAP, MAX_CAPITAL, MAX_FUEL, MAX_NEW_CAP, SYSTEM_CAP,
     WEIGHT, ZONE_CAP,
 };
 
@@ -21,7 +21,7 @@ pub fn stock_constant(tables: &Tables, y: usize, g: usize) -> Constant
     if y != 0 {
         return NONE;
     }
-    if tables.by_plant(KIND, g) != 0 {
+    if !tables.is_existing(g) {
         return NONE;
     }
     Constant {
@@ -35,7 +35,7 @@ pub fn new_capacity_constant(tables: &Tables, g: usize) -> Constant
     requires { g < tables.now.counts.plants }
     ensures { result ≡ constant_of (data_of tables.now) (row 15 0 g 0 0) }
 {
-    if tables.by_plant(KIND, g) == 0 {
+    if tables.is_existing(g) {
         return NONE;
     }
     Constant {
@@ -49,7 +49,7 @@ pub fn yearly_build_constant(tables: &Tables, y: usize, g: usize) -> Constant
     requires { (y < tables.now.counts.years) × (g < tables.now.counts.plants) }
     ensures { result ≡ constant_of (data_of tables.now) (row 16 y g 0 0) }
 {
-    if tables.by_plant(KIND, g) == 0 {
+    if tables.is_existing(g) {
         return NONE;
     }
     let limit = tables.by_year(BUILD_LIMIT, y);

@@ -1,9 +1,9 @@
 // Families 12 to 20: the rows of the fleet: capacity, builds, fuel, capital and emissions.
 #![tactic(auto, unfolding(row_sums::specs::Ready::sides_of, row_sums::specs::Ready::sides_with, constants::specs::Constants::constant_of), using(row_sums::proofs::Laws::exact_sums))]
 
-ghost use Rattle.std.specs.Prelude.{◌≡◌, not, ◌&&◌, ◌||◌, ℕ, ◌+◌, ◌<◌, eqb, leb, ltb};
+ghost use Rattle.std.specs.Prelude.{◌≡◌, not, ℕ, ◌<◌};
 ghost use Rattle.sums.specs.Index.{Index};
-ghost use Rattle.model.specs.Families.{row};
+ghost use Rattle.model.specs.Families.{row, out_of_service};
 ghost use Rattle.energy.specs.Energies.{Energies};
 ghost use Rattle.row_sums.specs.Ready.{sides_of};
 ghost use Rattle.tables.specs.Lists.{data_of, entry_of};
@@ -15,7 +15,7 @@ use fleet_constants::{
 };
 use row_sums::{Sides, at_most, empty, with_constant};
 use tables::lists::{Case, Entries, Tables};
-use tables::names::{BUILD, CAP, KIND, RETIRE, YEAR};
+use tables::names::{BUILD, CAP, RETIRE, YEAR};
 use tables::sets::BY_YEAR_PLANT;
 use terms::plants::capital_sum;
 use terms::years::{earlier, over_years};
@@ -27,7 +27,7 @@ pub fn stock(case: &Case, scale: u64, y: usize, g: usize) -> Sides
 {
     let own = capped::product(1, case.plan.by_year_plant(CAP, y, g));
     let before = earlier(&case.plan, CAP, BY_YEAR_PLANT, y, g, 0);
-    if case.tables.by_plant(KIND, g) != 0 {
+    if !case.tables.is_existing(g) {
         return Sides {
             above: own,
             below: capped::add_product(before, 1, case.plan.by_year_plant(BUILD, y, g)),
@@ -47,11 +47,7 @@ pub fn life(case: &Case, y: usize, g: usize) -> Sides
     requires { (y < case.now.plan.counts.years) × (g < case.now.plan.counts.plants) }
     ensures { (N : ℕ) → result ≡ sides_of (data_of case.now.tables) N (entry_of case.now.plan) (row 13 y g 0 0) }
 {
-    if in_service(
-        case.tables.by_plant(KIND, g),
-        case.tables.by_plant(YEAR, g),
-        y,
-    ) {
+    if in_service(&case.tables, y, g) {
         return empty();
     }
     Sides {
@@ -66,7 +62,7 @@ pub fn fixed(case: &Case, y: usize, g: usize) -> Sides
     ensures { (N : ℕ) → result ≡ sides_of (data_of case.now.tables) N (entry_of case.now.plan) (row 14 y g 0 0) }
 {
     let retire = case.plan.by_year_plant(RETIRE, y, g);
-    if case.tables.by_plant(KIND, g) != 0 {
+    if !case.tables.is_existing(g) {
         return Sides {
             above: capped::zero(),
             below: capped::product(1, retire),
@@ -84,7 +80,7 @@ pub fn new_capacity(case: &Case, scale: u64, g: usize) -> Sides
     requires { g < case.now.plan.counts.plants }
     ensures { result ≡ sides_of (data_of case.now.tables) scale (entry_of case.now.plan) (row 15 0 g 0 0) }
 {
-    if case.tables.by_plant(KIND, g) == 0 {
+    if case.tables.is_existing(g) {
         return empty();
     }
     at_most(
@@ -99,7 +95,7 @@ pub fn yearly_build(case: &Case, scale: u64, y: usize, g: usize) -> Sides
     requires { (y < case.now.plan.counts.years) × (g < case.now.plan.counts.plants) }
     ensures { result ≡ sides_of (data_of case.now.tables) scale (entry_of case.now.plan) (row 16 y g 0 0) }
 {
-    if case.tables.by_plant(KIND, g) == 0 {
+    if case.tables.is_existing(g) {
         return empty();
     }
     at_most(
@@ -159,13 +155,14 @@ pub fn system_emission(tables: &Tables, energy: &EnergyTable, scale: u64, y: usi
     )
 }
 
-// Whether a plant of this kind and year of retirement or commission may have capacity in year y, counted from 0.
-fn in_service(kind: u64, year: u64, y: usize) -> bool
-    requires { y < 10 }
-    ensures { result ≡ not ((eqb kind 0 && leb year (y + 1)) || (not (eqb kind 0) && ltb (y + 1) year)) }
+// Whether plant g may have capacity in year y: an existing plant before its retirement year, a candidate from its commission year on.
+fn in_service(tables: &Tables, y: usize, g: usize) -> bool
+    requires { (y < tables.now.counts.years) × (g < tables.now.counts.plants) }
+    ensures { result ≡ not (out_of_service (data_of tables.now) y g) }
 {
     let this_year = y as u64 + 1;
-    if kind == 0 {
+    let year = tables.by_plant(YEAR, g);
+    if tables.is_existing(g) {
         return this_year < year;
     }
     year <= this_year

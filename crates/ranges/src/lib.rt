@@ -1,10 +1,10 @@
 // The range of each entry of the data, both ends included.
 #![tactic(auto)]
 
-ghost use Rattle.std.specs.Prelude.{◌≡◌, ℕ, ◌+◌, ◌-◌, ◌≤◌, ◌<◌, get_or};
+ghost use Rattle.std.specs.Prelude.{◌≡◌, ℕ, ◌+◌, ◌-◌, ◌≤◌, ◌<◌, eqb, get_or};
 ghost use Rattle.sums.specs.Index.{box_of};
 ghost use Rattle.model.specs.Counts.{sets};
-ghost use Rattle.model.specs.Data.{within, either, ◌to◌, most32, table_count};
+ghost use Rattle.model.specs.Data.{within, either, ◌to◌, most32, table_count, existing};
 ghost use Rattle.tables.specs.Layout.{table_sets};
 ghost use Rattle.tables.specs.Lists.{data_of};
 ghost use Rattle.ranges.specs.Ranges.{ranged, fixed, by_index, range_of};
@@ -118,13 +118,6 @@ fn fixed_range(t: usize) -> Range
     FIXED[t]
 }
 
-fn narrow(n: usize) -> u32
-    requires { n ≤ 11 }
-    ensures { result ≡ n }
-{
-    n as u32
-}
-
 // Below a count: the zones and the fuels.
 fn below(n: usize) -> Range
     requires { (1 ≤ n) × (n ≤ 8) }
@@ -132,32 +125,49 @@ fn below(n: usize) -> Range
 {
     Range {
         least: 0,
-        most: narrow(n - 1),
+        most: (n - 1) as u32,
     }
 }
 
-// Any number where `b` is true, else 0.
-fn any_if(b: bool) -> Range
-    ensures { ranged result ≡ either b (0 to most32) (0 to 0) }
+// Any number for an existing plant, 0 for a candidate.
+fn of_existing(tables: &Tables, g: usize) -> Range
+    requires { g < tables.now.counts.plants }
+    ensures { ranged result ≡ either (existing (data_of tables.now) g) (0 to most32) (0 to 0) }
 {
-    if b { ANY } else { ZERO }
+    if tables.is_existing(g) { ANY } else { ZERO }
+}
+
+// Any number for a candidate, 0 for an existing plant.
+fn of_candidate(tables: &Tables, g: usize) -> Range
+    requires { g < tables.now.counts.plants }
+    ensures { ranged result ≡ either (existing (data_of tables.now) g) (0 to 0) (0 to most32) }
+{
+    if tables.is_existing(g) { ZERO } else { ANY }
 }
 
 // An existing plant retires in the second year or later, at the latest after the last; a candidate comes in one of the years.
-fn plant_year(b: bool, years: usize) -> Range
-    requires { years ≤ 10 }
-    ensures { ranged result ≡ either b (2 to years + 1) (1 to years) }
+fn plant_year(tables: &Tables, g: usize) -> Range
+    requires { g < tables.now.counts.plants }
+    ensures { ranged result ≡ either (existing (data_of tables.now) g) (2 to tables.now.counts.years + 1) (1 to tables.now.counts.years) }
 {
-    if b {
+    let years = tables.counts.years as u32;
+    if tables.is_existing(g) {
         return Range {
             least: 2,
-            most: narrow(years + 1),
+            most: years + 1,
         };
     }
     Range {
         least: 1,
-        most: narrow(years),
+        most: years,
     }
+}
+
+// Any number between two zones, 0 from a zone to itself.
+fn between_zones(z: usize, w: usize) -> Range
+    ensures { ranged result ≡ either (eqb z w) (0 to 0) (0 to most32) }
+{
+    if z == w { ZERO } else { ANY }
 }
 
 // The range of table `t` at first index `i` and second index `j`. No range depends on the year or the slice.
@@ -168,14 +178,14 @@ pub fn range_at(tables: &Tables, t: usize, i: usize, j: usize) -> Range
     match t {
         ZONE => below(tables.counts.zones),
         FUEL => below(tables.counts.fuels),
-        GEN_CAP => any_if(tables.is_existing(i)),
-        YEAR => plant_year(tables.is_existing(i), tables.counts.years),
-        MAX_NEW_CAP => any_if(!tables.is_existing(i)),
-        // An arm for each, with no `|`: the check joins patterns that are neighbours to one range, and the last arm's proof didn't close (c).
-        TL => any_if(i != j),
-        LINE_LIMIT => any_if(i != j),
-        MW_PER_LINE => any_if(i != j),
-        LINE_ANNUITY => any_if(i != j),
+        GEN_CAP => of_existing(tables, i),
+        YEAR => plant_year(tables, i),
+        MAX_NEW_CAP => of_candidate(tables, i),
+        // An arm for each, with no `|`: one table's range can be wrong alone, as in the edits that must fail `link_to_itself` and `line_to_itself`.
+        TL => between_zones(i, j),
+        LINE_LIMIT => between_zones(i, j),
+        MW_PER_LINE => between_zones(i, j),
+        LINE_ANNUITY => between_zones(i, j),
         _ => fixed_range(t),
     }
 }

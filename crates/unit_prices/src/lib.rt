@@ -11,7 +11,7 @@ ghost use Rattle.tables.specs.Lists.{data_of};
 use capped::Sum;
 use tables::lists::{Entries, Tables};
 use tables::names::{
-    ANNUITY, EMISSION, FIXED_OM, GEN, GEN_COST, KIND, LINE_ANNUITY, RES_COST, RESERVE, SRES_VOLL,
+    ANNUITY, EMISSION, FIXED_OM, GEN, GEN_COST, LINE_ANNUITY, RES_COST, RESERVE, SRES_VOLL,
     SURPLUS, SURPLUS_PENALTY, TAX, UNMET, VOLL,
 };
 
@@ -21,7 +21,7 @@ pub fn yearly_price(tables: &Tables, y: usize, g: usize) -> u64
     ensures { result ≡ fixed_om (data_of tables.now) y g + on (candidate (data_of tables.now) g) (annuity (data_of tables.now) y g) }
 {
     let fixed = tables.by_year_plant(FIXED_OM, y, g);
-    if tables.by_plant(KIND, g) == 0 {
+    if tables.is_existing(g) {
         return fixed;
     }
     fixed + tables.by_year_plant(ANNUITY, y, g)

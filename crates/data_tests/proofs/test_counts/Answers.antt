@@ -1,29 +1,27 @@
-use Rattle.model.specs.Calls.{outcome}
-use mathlib.Core.Path.{◌≡◌, refl, sym, ap, ◌∙◌}
 use borrow.Author.Rules.{rules}
-use native.Mathlib.Omega.{arith}
-use Rattle.sums.specs.Span.{upto}
-use Rattle.sums.proofs.Spans.{upto_step, upto-stop}
-use Rattle.model.specs.Tests.{unless, counts_fault}
-use Rattle.data_tests.proofs.Passed.{count-tested}
+use mathlib.Core.Path.{◌≡◌, refl, sym, ap}
+use Rattle.std.specs.Prelude.{Some, None}
+use Rattle.std.proofs.lemmas.Iterator.{first_from_Range}
+use Rattle.sums.specs.Span.{fine, fault}
+use Rattle.model.specs.declared.Refusal.TheVariants.{Shape}
+use Rattle.model.specs.Calls.{outcome}
+use Rattle.model.specs.Tests.{counts_fault, count_fault}
+use Rattle.data_tests.proofs.Passed.{count-passed, count-refused}
+use Rattle.data_tests.proofs.Firsts.{first-refused, none-refused}
 use Rattle.data_tests.proofs.test_counts.Goals as goal
 
-pub loop-i-init : goal.loop-i-init
-unfolding upto
-loop-i-init c = (search rules, refl)
-
-pub returns-then-not-in_range : goal.returns-then-not-in_range
-unfolding counts_fault unless
-returns-then-not-in_range c =
-    sym (ap outcome (upto-stop _ _ _ c.loop-i-test.true c.loop-i.invariant.1 (count-tested _ c.loop-i.i c.most_count.ensures c.in_range.ensures ∙ rw (c.if-not-in_range.true))))
-
-pub loop-i-preserved : goal.loop-i-preserved
-unfolding unless
-loop-i-preserved c =
-    (search rules, upto_step _ _ c.loop-i.invariant.1 ∙ count-tested _ c.loop-i.i c.most_count.ensures c.in_range.ensures ∙ rw (c.if-not-in_range.false))
-
-pub returns : goal.returns
+pub returns-in-Some : goal.returns-in-Some
 unfolding counts_fault
-returns c =
-    let e : c.loop-i.i ≡ 7 = omega arith in
-    rw (← e, c.loop-i.invariant.1)
+returns-in-Some c =
+    let l = c.args.«data».now in
+    sym (ap outcome (first-refused (count_fault l) refl refl
+    (first_from_Range _ _ _ (Some c.in-Some.i) (λ i. count_fault l i ≡ fault (Shape i)) (λ i. count_fault l i ≡ fine) c.in-Some.ensures.ran
+    (λ i q k. count-refused l i (search rules)) (λ i q k. (search rules, count-passed l i (search rules))))))
+
+pub returns-in-None : goal.returns-in-None
+unfolding counts_fault
+returns-in-None c =
+    let l = c.args.«data».now in
+    sym (ap outcome (none-refused (count_fault l) refl refl
+    (first_from_Range _ _ _ None (λ i. count_fault l i ≡ fault (Shape i)) (λ i. count_fault l i ≡ fine) c.in-None.ensures.ran
+    (λ i q k. count-refused l i (search rules)) (λ i q k. (search rules, count-passed l i (search rules))))))

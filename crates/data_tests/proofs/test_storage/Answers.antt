@@ -1,27 +1,28 @@
-use Rattle.model.specs.Calls.{outcome}
-use mathlib.Core.Path.{refl, sym, ap, ◌∙◌}
 use borrow.Author.Rules.{rules}
-use native.Mathlib.Omega.{arith}
-use Rattle.sums.specs.Span.{upto}
-use Rattle.sums.proofs.Spans.{upto_step, upto-stop}
-use Rattle.model.specs.Tests.{storage_fault}
+use mathlib.Core.Path.{◌≡◌, refl, sym, ap}
+use Rattle.std.specs.Prelude.{Some, None}
+use Rattle.std.proofs.lemmas.Iterator.{first_from_Range}
+use Rattle.sums.specs.Span.{fine, fault}
+use Rattle.model.specs.Data.{read}
+use Rattle.model.specs.declared.Refusal.TheVariants.{Storage}
+use Rattle.model.specs.Calls.{outcome}
+use Rattle.model.specs.Tests.{storage_fault, plant_storage_fault}
 use Rattle.model.proofs.Batteries.{plant-refused, plant-passed}
-use Rattle.data_tests.proofs.Passed.{all-passed}
+use Rattle.data_tests.proofs.Firsts.{first-refused, none-refused}
 use Rattle.data_tests.proofs.test_storage.Goals as goal
 
-pub loop-g-init : goal.loop-g-init
-unfolding upto
-loop-g-init c = (search rules, refl)
-
-pub returns-then-is_vre_battery : goal.returns-then-is_vre_battery
+pub returns-in-Some : goal.returns-in-Some
 unfolding storage_fault
-returns-then-is_vre_battery c =
-    let counts = c.args.tables.now.laid_out.counts in
-    sym (ap outcome (upto-stop _ _ _ (rw counts c.loop-g-test.true) c.loop-g.invariant.1 (plant-refused _ _ c.is_vre_battery.ensures c.if-is_vre_battery.true)))
+returns-in-Some c =
+    let D = read c.args.tables.now.list.now in
+    sym (ap outcome (first-refused (plant_storage_fault D) refl (rw c.args.tables.now.laid_out.counts)
+    (first_from_Range _ _ _ (Some c.in-Some.g) (λ x. plant_storage_fault D x ≡ fault (Storage x)) (λ x. plant_storage_fault D x ≡ fine) c.in-Some.ensures.ran
+    (λ x q k. plant-refused D x (search rules) refl) (λ x q k. (search rules, plant-passed D x (search rules) refl)))))
 
-pub loop-g-preserved : goal.loop-g-preserved
-loop-g-preserved c =
-    (search rules, upto_step _ _ c.loop-g.invariant.1 ∙ plant-passed _ _ c.is_vre_battery.ensures c.if-is_vre_battery.false)
-
-pub returns : goal.returns
-returns c = sym (ap outcome (all-passed _ c.args.tables.now.laid_out.counts (omega arith) c.loop-g.invariant.1))
+pub returns-in-None : goal.returns-in-None
+unfolding storage_fault
+returns-in-None c =
+    let D = read c.args.tables.now.list.now in
+    sym (ap outcome (none-refused (plant_storage_fault D) refl (rw c.args.tables.now.laid_out.counts)
+    (first_from_Range _ _ _ None (λ x. plant_storage_fault D x ≡ fault (Storage x)) (λ x. plant_storage_fault D x ≡ fine) c.in-None.ensures.ran
+    (λ x q k. plant-refused D x (search rules) refl) (λ x q k. (search rules, plant-passed D x (search rules) refl)))))
