@@ -1,5 +1,5 @@
 // Families 5 to 11: the rows of a plant's dispatch. None has a constant: its two sums are the same at every scale.
-#![tactic(auto, unfolding(row_sums::specs::Ready::sides_of, row_sums::specs::Ready::sides_with, constants::specs::Constants::constant_of), using(row_sums::proofs::Laws::exact_sums))]
+#![tactic(auto, unfolding(row_sums::specs::Sides::sides_of, row_sums::specs::Sides::sides_with, constants::specs::Constants::constant_of), using(row_sums::proofs::Laws::exact_sums))]
 
 ghost use Rattle.std.specs.Prelude.{◌≡◌, ℕ, ◌+◌, ◌*◌, ◌≤◌, ◌<◌, length, get_or};
 ghost use Rattle.capped.specs.Cap.{cap};
@@ -9,7 +9,7 @@ ghost use Rattle.model.specs.Families.{row};
 ghost use Rattle.tables.specs.Layout.{Counted, EntryAt};
 ghost use Rattle.parts.specs.Years.{YearPart, gen_kind, reserve_kind};
 ghost use Rattle.energy.specs.Energies.{Energies};
-ghost use Rattle.row_sums.specs.Ready.{sides_of, terms_of, high, low, ramp_of};
+ghost use Rattle.row_sums.specs.Sides.{sides_of, terms_of, high, low, ramp_of};
 ghost use Rattle.tables.specs.Layout.{table_sets};
 ghost use Rattle.tables.specs.Lists.{data_of, entry_of};
 

@@ -5,7 +5,7 @@ ghost use Rattle.std.specs.Prelude.{◌≡◌, ◌<◌};
 ghost use Rattle.sums.specs.Index.{index_of};
 ghost use Rattle.model.specs.Families.{family_of, family_count};
 ghost use Rattle.tables.specs.Layout.{Inside};
-ghost use Rattle.row_sums.specs.Ready.{sides_of};
+ghost use Rattle.row_sums.specs.Sides.{sides_of};
 ghost use Rattle.tables.specs.Lists.{data_of, entry_of};
 
 pub mod years;

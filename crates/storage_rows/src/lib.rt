@@ -1,5 +1,5 @@
 // Families 21 to 25: the rows of batteries. A plant that is no battery has empty rows of 21, 23 and 24; those of 22 and 25 hold its charge and level to 0.
-#![tactic(auto, unfolding(row_sums::specs::Ready::sides_of, row_sums::specs::Ready::sides_with, constants::specs::Constants::constant_of), using(row_sums::proofs::Laws::exact_sums))]
+#![tactic(auto, unfolding(row_sums::specs::Sides::sides_of, row_sums::specs::Sides::sides_with, constants::specs::Constants::constant_of), using(row_sums::proofs::Laws::exact_sums))]
 
 ghost use Rattle.std.specs.Prelude.{◌≡◌, List, ℕ, ◌+◌, ◌*◌, ◌-◌, ◌%◌, ◌<◌, ltb, length, get_or};
 ghost use Rattle.capped.specs.Cap.{cap};
@@ -9,7 +9,7 @@ ghost use Rattle.model.specs.Data.{is_battery};
 ghost use Rattle.model.specs.Families.{row, only};
 ghost use Rattle.tables.specs.Layout.{Counted, EntryAt, plan_entry};
 ghost use Rattle.parts.specs.Years.{YearPart, gen_kind, charge_kind, level_kind};
-ghost use Rattle.row_sums.specs.Ready.{sides_of, terms_of, ramp_of};
+ghost use Rattle.row_sums.specs.Sides.{sides_of, terms_of, ramp_of};
 ghost use Rattle.tables.specs.Layout.{table_sets};
 ghost use Rattle.tables.specs.Lists.{data_of, entry_of};
 

@@ -1,5 +1,5 @@
 // Families 1 to 4: the rows of a zone.
-#![tactic(auto, unfolding(row_sums::specs::Ready::sides_of, row_sums::specs::Ready::sides_with, constants::specs::Constants::constant_of), using(row_sums::proofs::Laws::exact_sums))]
+#![tactic(auto, unfolding(row_sums::specs::Sides::sides_of, row_sums::specs::Sides::sides_with, constants::specs::Constants::constant_of), using(row_sums::proofs::Laws::exact_sums))]
 
 ghost use Rattle.std.specs.Prelude.{◌≡◌, ℕ, ◌+◌, ◌*◌, ◌<◌, eqb, length};
 ghost use Rattle.capped.specs.Cap.{cap};
@@ -11,7 +11,7 @@ ghost use Rattle.model.specs.Data.{zone};
 ghost use Rattle.model.specs.Families.{row};
 ghost use Rattle.model.specs.Tests.{entries_fault};
 ghost use Rattle.parts.specs.Years.{YearPart, gen_kind, reserve_kind, charge_kind};
-ghost use Rattle.row_sums.specs.Ready.{sides_of};
+ghost use Rattle.row_sums.specs.Sides.{sides_of};
 ghost use Rattle.model.specs.Columns.{column_sets};
 ghost use Rattle.tables.specs.Layout.{EntryAt};
 ghost use Rattle.tables.specs.Lists.{data_of, entry_of};
