@@ -21,6 +21,7 @@ pub const ENERGY_COUNT: usize = 1280;
 pub type EnergyTable = [Sum; ENERGY_COUNT];
 
 // Σ Dur·gen of a plant over the slices of season q, from the year's part of gen.
+// The part is a bare slice, so its length is asked: document 01 has a year's part as a slice part, handed on to row tests and to posting.
 pub fn season_energy(tables: &Tables, outputs: &[u32], g: usize, q: usize) -> Sum
     requires { (length outputs.now ≡ tables.now.counts.plants * slices_of tables.now.counts) × ((g < tables.now.counts.plants) × (q < tables.now.counts.seasons)) }
     ensures { result ≡ cap (season_sum (data_of tables.now) q (λ s. duration (data_of tables.now) s * get_or outputs.now (g * slices_of tables.now.counts + s) 0)) }

@@ -24,6 +24,7 @@ use tables::names::{ERR, FIRMSHORT, MW_PER_LINE, SPINSHORT, SURPLUS, TOTAL_LINES
 use terms::plants::{credit_sum, vre_sum, zone_sum};
 use zone_constants::{balance_constant, firm_constant, spinning_constant, transfer_constant};
 
+// A year's part here and below is a bare slice, and each contract says what it is: document 01 has it as a slice part, handed on to row tests and posting.
 // 1 (14): 1000·Σ gen in z − 1000·Σ charge in z − 1000·Σ trans[z,z2] + Σ (1000 − Loss[z2,z])·trans[z2,z] + unmet − surplus = Demand·EE
 pub fn balance(
     case: &Case,
