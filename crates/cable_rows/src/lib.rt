@@ -1,10 +1,10 @@
 // Families 26 to 28: the rows of the lines that are built between zones. The source prints them without numbers, after (15).
-#![tactic(auto, unfolding(row_sums::specs::Ready::sides_of, row_sums::specs::Ready::sides_with, constants::specs::Constants::constant_of), using(row_sums::proofs::Laws::exact_sums))]
+#![tactic(auto, unfolding(row_sums::specs::Sides::sides_of, row_sums::specs::Sides::sides_with, constants::specs::Constants::constant_of), using(row_sums::proofs::Laws::exact_sums))]
 
 ghost use Rattle.std.specs.Prelude.{◌≡◌, ℕ, ◌<◌};
 ghost use Rattle.model.specs.Data.{Data};
 ghost use Rattle.model.specs.Families.{row};
-ghost use Rattle.row_sums.specs.Ready.{sides_of};
+ghost use Rattle.row_sums.specs.Sides.{sides_of};
 ghost use Rattle.tables.specs.Lists.{data_of, entry_of};
 
 use row_sums::{Sides, at_most, empty};

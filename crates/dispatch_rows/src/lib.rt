@@ -1,21 +1,20 @@
 // Families 5 to 11: the rows of a plant's dispatch. None has a constant: its two sums are the same at every scale.
-#![tactic(auto, unfolding(row_sums::specs::Ready::sides_of, row_sums::specs::Ready::sides_with, constants::specs::Constants::constant_of), using(row_sums::proofs::Laws::exact_sums))]
+#![tactic(auto, unfolding(row_sums::specs::Sides::sides_of, row_sums::specs::Sides::sides_with, constants::specs::Constants::constant_of), using(row_sums::proofs::Laws::exact_sums))]
 
 ghost use Rattle.std.specs.Prelude.{◌≡◌, ℕ, ◌+◌, ◌*◌, ◌≤◌, ◌<◌, length, get_or};
 ghost use Rattle.capped.specs.Cap.{cap};
 ghost use Rattle.model.specs.Counts.{slices_of, [g]};
 ghost use Rattle.model.specs.Columns.{cap as cap_column};
 ghost use Rattle.model.specs.Families.{row};
-ghost use Rattle.tables.specs.Layout.{Counted, EntryAt};
+ghost use Rattle.tables.specs.Layout.{EntryAt};
 ghost use Rattle.parts.specs.Years.{YearPart, gen_kind, reserve_kind};
 ghost use Rattle.energy.specs.Energies.{Energies};
-ghost use Rattle.row_sums.specs.Ready.{sides_of, terms_of, high, low, ramp_of};
+ghost use Rattle.row_sums.specs.Sides.{sides_of, terms_of, high, low, ramp_of};
 ghost use Rattle.tables.specs.Layout.{table_sets};
 ghost use Rattle.tables.specs.Lists.{data_of, entry_of};
 
 use capped::Sum;
 use energy::totals::{EnergyTable, energy_at};
-use model::Counts;
 use parts::slices::{day_of, first_hour, season_of};
 use parts::years::part_at;
 use row_sums::{Change, Sides, empty};
@@ -31,12 +30,13 @@ fn rate_of_capacity(plan: &Plan, rate: u64, y: usize, g: usize) -> Sum
     capped::product(rate, plan.by_year_plant(CAP, y, g))
 }
 
+// A year's part here and below is a bare slice, and each contract says what it is: document 01 has it as a slice part, handed on to row tests and posting.
 // 1000 times an entry of a year's part of gen, reserve or charge, to stand beside a rate of capacity.
-fn in_thousandths(part: &[u32], c: Counts, g: usize, s: usize) -> Sum
-    requires { Counted c × ((length part.now ≡ c.plants * slices_of c) × ((g < c.plants) × (s < slices_of c))) }
-    ensures { result ≡ cap (1000 * get_or part.now (g * slices_of c + s) 0) }
+fn in_thousandths(plan: &Plan, part: &[u32], g: usize, s: usize) -> Sum
+    requires { (length part.now ≡ plan.now.counts.plants * slices_of plan.now.counts) × ((g < plan.now.counts.plants) × (s < slices_of plan.now.counts)) }
+    ensures { result ≡ cap (1000 * get_or part.now (g * slices_of plan.now.counts + s) 0) }
 {
-    capped::product(1000, part_at(part, c, g, s))
+    capped::product(1000, part_at(part, plan.counts, g, s))
 }
 
 // 5 (22): 1000·(gen + reserve) ≤ (1000 + OverLoad)·cap
@@ -55,8 +55,8 @@ pub fn loading(
     Sides {
         above: rate_of_capacity(&case.plan, rate, y, g),
         below: capped::join(
-            in_thousandths(outputs, case.plan.counts, g, s),
-            in_thousandths(reserves, case.plan.counts, g, s),
+            in_thousandths(&case.plan, outputs, g, s),
+            in_thousandths(&case.plan, reserves, g, s),
         ),
     }
 }
@@ -69,7 +69,7 @@ pub fn offer(case: &Case, reserves: &[u32], y: usize, g: usize, s: usize) -> Sid
     let rate = case.tables.by_plant(RES_OFFER, g);
     Sides {
         above: rate_of_capacity(&case.plan, rate, y, g),
-        below: in_thousandths(reserves, case.plan.counts, g, s),
+        below: in_thousandths(&case.plan, reserves, g, s),
     }
 }
 
@@ -93,8 +93,8 @@ pub fn ramp(
     let (high, low) = high_and_low(change, s);
     let allowed = rate_of_capacity(&case.plan, case.tables.by_plant(rate, g), y, g);
     Sides {
-        above: capped::join(allowed, in_thousandths(part, case.plan.counts, g, low)),
-        below: in_thousandths(part, case.plan.counts, g, high),
+        above: capped::join(allowed, in_thousandths(&case.plan, part, g, low)),
+        below: in_thousandths(&case.plan, part, g, high),
     }
 }
 
@@ -125,7 +125,7 @@ pub fn minimum_load(case: &Case, outputs: &[u32], y: usize, g: usize, s: usize) 
     }
     let rate = case.tables.by_plant(MIN_CAP_FAC, g);
     Sides {
-        above: in_thousandths(outputs, case.plan.counts, g, s),
+        above: in_thousandths(&case.plan, outputs, g, s),
         below: rate_of_capacity(&case.plan, rate, y, g),
     }
 }
@@ -159,6 +159,6 @@ pub fn profiled(case: &Case, outputs: &[u32], y: usize, g: usize, s: usize) -> S
     let rate = case.tables.by_plant_slice(PROFILE, g, s);
     Sides {
         above: rate_of_capacity(&case.plan, rate, y, g),
-        below: in_thousandths(outputs, case.plan.counts, g, s),
+        below: in_thousandths(&case.plan, outputs, g, s),
     }
 }

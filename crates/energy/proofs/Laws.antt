@@ -6,19 +6,18 @@ use Prim.Native.Nat.{ℕ, zero, suc, ◌+◌, ◌*◌, ◌≤◌, ◌<◌}
 use native.Mathlib.Nat.{add-zero, mul_comm, mul-le-mul, mul_assoc}
 use native.Mathlib.Numerals.{add-one}
 use native.Mathlib.Omega.{arith}
-use lib.ListN.{get_or}
 use lib.Dec.{eqb}
-use Rattle.capped.specs.Cap.{cap, plus, times, Sum}
-use Rattle.capped.proofs.Laws.{plus-cap, both-cap, times-cap}
+use Rattle.capped.specs.Cap.{cap, times, Sum}
+use Rattle.capped.proofs.Laws.{both-cap, times-cap}
 use Rattle.sums.specs.Sum.{sum, on}
 use Rattle.sums.proofs.Tests.{on_both}
-use Rattle.sums.proofs.Sums.{sum-one-more, sum-cong, sum-scale, sum-flat}
+use Rattle.sums.proofs.Sums.{sum-cong, sum-scale, sum-flat}
 use Rattle.sums.proofs.Numbering.{below-product}
 use Rattle.sums.specs.Index.{Index}
 use Rattle.sums.specs.Linear.{value}
 use Rattle.model.specs.declared.Counts.{Counts}
-use Rattle.model.specs.Counts.{slices_of, season_length, [s], [g]}
-use Rattle.model.specs.Data.{Data, G, S, zone, fuel, duration, heat_rate, emission, table_count}
+use Rattle.model.specs.Counts.{slices_of, season_length}
+use Rattle.model.specs.Data.{Data, G, S, zone, fuel, duration, heat_rate, emission}
 use Rattle.model.specs.Columns.{gen}
 use Rattle.model.specs.Families.{season_sum, available, fuel_use, zone_emission, system_emission}
 use Rattle.tables.specs.Layout.{Counted}
@@ -26,11 +25,7 @@ use Rattle.energy.specs.Energies.{Energies, energy_at, both_if, all_if, all_of, 
 
 -- Loops
 
--- a turn of a loop that adds the k-th term
-pub more : (k : ℕ) (f : ℕ → ℕ) → plus (cap (sum k f)) (f k) ≡ cap (sum (k + 1) f)
-more k f = plus-cap (sum k f) (f k) ∙ ap cap (sym (sum-one-more k f))
-
--- one that joins the k-th sum where its test holds, and the loop's end
+-- a turn of a loop that joins the k-th sum where its test holds, and the loop's end
 pub all_more : {r s t : Sum} {b : Bool} (k : ℕ) (p : ℕ → Bool) (f : ℕ → Sum) → r ≡ both_if b s t → s ≡ all_if k p f → b ≡ p k → t ≡ f k → r ≡ all_if (k + 1) p f
 unfolding all_if
 all_more k p f e h v w = e ∙ rw (h, v, w) (ap (λ (n : ℕ). all_if n p f) (sym (add-one k)))

@@ -1,5 +1,5 @@
 -- The plants' energy Σ Dur·gen by year and season, in a list of sums, and sums of them.
-use Rattle.std.specs.Prelude.{◌≡◌, Bool, true, false, List, None, ℕ, zero, suc, ◌+◌, ◌*◌, ◌<◌, length, get_or}
+use Rattle.std.specs.Prelude.{◌≡◌, Bool, true, false, List, Some, ℕ, zero, suc, ◌+◌, ◌*◌, ◌<◌, length, get_or}
 use Rattle.capped.specs.Cap.{cap, both, times, Sum}
 use Rattle.sums.specs.Index.{Index}
 use Rattle.model.specs.declared.Counts.{Counts}
@@ -8,8 +8,11 @@ use Rattle.model.specs.Columns.{gen}
 use Rattle.model.specs.Families.{season_sum}
 
 -- the energy of year y, plant g and season q stands at (y·G + g)·Q + q
+abbrev pub energy_place : Counts → ℕ → ℕ → ℕ → ℕ
+energy_place c y g q = (y * c.plants + g) * c.seasons + q
+
 abbrev pub energy_at : Counts → List Sum → ℕ → ℕ → ℕ → Sum
-energy_at c energy y g q = get_or energy ((y * c.plants + g) * c.seasons + q) None
+energy_at c energy y g q = get_or energy (energy_place c y g q) (Some 0)
 
 -- how many a list of them holds: 10 years, 32 plants and 4 seasons, the most of each
 abbrev pub energy_count : ℕ

@@ -1,11 +1,11 @@
 // The plants' energy Σ Dur·gen by year and season, summed once and used by families 10, 17, 19 and 20.
 ghost use Rattle.std.specs.Prelude.{ℕ, Bool, ◌≡◌, ◌&&◌, ◌+◌, ◌*◌, ◌<◌, eqb, length, get_or};
-ghost use Rattle.capped.specs.Cap.{cap};
+ghost use Rattle.capped.specs.Cap.{cap, Sum};
 ghost use Rattle.model.specs.Counts.{slices_of, [g]};
 ghost use Rattle.model.specs.Data.{zone, fuel, duration, heat_rate, emission};
 ghost use Rattle.model.specs.Families.{season_sum};
 ghost use Rattle.tables.specs.Layout.{Counted, table_sets};
-ghost use Rattle.energy.specs.Energies.{energy_at, both_if, all_if, all_of, year_energy, energy_count};
+ghost use Rattle.energy.specs.Energies.{energy_place, energy_at, all_if, all_of, year_energy, energy_count};
 ghost use Rattle.tables.specs.Lists.{data_of};
 
 use capped::Sum;
@@ -13,6 +13,7 @@ use model::Counts;
 use parts::years::part_at;
 use tables::lists::{Entries, Tables};
 use tables::names::{DURATION, EMISSION, FUEL, HEAT_RATE, ZONE};
+use terms::totals::total;
 
 // A plant's energy in every year and season, as many of each as there may be: 10 years, 32 plants and 4 seasons.
 pub const ENERGY_COUNT: usize = 1280;
@@ -20,69 +21,79 @@ pub const ENERGY_COUNT: usize = 1280;
 pub type EnergyTable = [Sum; ENERGY_COUNT];
 
 // Σ Dur·gen of a plant over the slices of season q, from the year's part of gen.
+// The part is a bare slice, so its length is asked: document 01 has a year's part as a slice part, handed on to row tests and to posting.
 pub fn season_energy(tables: &Tables, outputs: &[u32], g: usize, q: usize) -> Sum
     requires { (length outputs.now ≡ tables.now.counts.plants * slices_of tables.now.counts) × ((g < tables.now.counts.plants) × (q < tables.now.counts.seasons)) }
     ensures { result ≡ cap (season_sum (data_of tables.now) q (λ s. duration (data_of tables.now) s * get_or outputs.now (g * slices_of tables.now.counts + s) 0)) }
 {
     let p = tables.counts.days * tables.counts.hours;
     let from = q * p;
-    let mut total = capped::zero();
-    for i in 0..p {
+    total(p, |i| {
         let hours = tables.by_slice(DURATION, from + i);
-        total = capped::add_product(total, hours, part_at(outputs, tables.counts, g, from + i));
-    }
-    total
+        capped::product(hours, part_at(outputs, tables.counts, g, from + i))
+    })
 }
 
-// The energy of a year, plant and season.
+// Where the energy of a year, plant and season stands. `Counted` is asked: the reason stands beside it (tables/specs/Layout.antt).
+pub fn energy_place(c: Counts, y: usize, g: usize, q: usize) -> usize
+    requires { Counted c × ((y < c.years) × ((g < c.plants) × (q < c.seasons))) }
+    ensures { (result ≡ energy_place c y g q) × (result < energy_count) }
+{
+    (y * c.plants + g) * c.seasons + q
+}
+
+// The energy of a year, plant and season. `Counted` is asked as above.
 pub fn energy_at(energy: &EnergyTable, c: Counts, y: usize, g: usize, q: usize) -> Sum
     requires { Counted c × ((y < c.years) × ((g < c.plants) × (q < c.seasons))) }
     ensures { result ≡ energy_at c energy.now y g q }
 {
-    energy[(y * c.plants + g) * c.seasons + q]
+    energy[energy_place(c, y, g, q)]
 }
 
-// factor·Σ of a plant's energies over the seasons of year y, added to a sum where a test holds.
-fn add_energy_if(
-    here: bool,
-    total: Sum,
-    factor: u64,
-    energy: &EnergyTable,
-    c: Counts,
-    y: usize,
-    g: usize,
-) -> Sum
-    requires { Counted c × ((y < c.years) × (g < c.plants)) }
-    ensures { result ≡ both_if here total (year_energy c energy.now factor y g) }
+// The sum of those of n sums that a test passes. They need not be capped sums of numbers, as `total` asks: a caller lends the table of energies.
+fn sum_of<P: Fn(usize) -> bool, F: Fn(usize) -> Sum>(n: usize, test: P, term: F) -> Sum
+    requires { (i : ℕ) → i < n → P.pre test i × F.pre term i }
+    ensures { (p : ℕ → Bool) (f : ℕ → Sum) → ((i : ℕ) (b : Bool) → i < n → P.post test i b → b ≡ p i) → ((i : ℕ) (r : Sum) → i < n → F.post term i r → r ≡ f i)
+        → result ≡ all_if n p f }
 {
-    if !here {
-        return total;
+    let mut sum = capped::zero();
+    for i in 0..n {
+        if test(i) {
+            sum = capped::join(sum, term(i));
+        }
     }
-    let mut year = capped::zero();
-    for q in 0..c.seasons {
-        year = capped::add_multiple(year, energy_at(energy, c, y, g, q), factor);
-    }
-    capped::join(total, year)
+    sum
+}
+
+// factor·Σ of a plant's energies over the seasons of year y.
+fn year_energy(tables: &Tables, energy: &EnergyTable, factor: u64, y: usize, g: usize) -> Sum
+    requires { (y < tables.now.counts.years) × (g < tables.now.counts.plants) }
+    ensures { result ≡ year_energy tables.now.counts energy.now factor y g }
+{
+    sum_of(
+        tables.counts.seasons,
+        |_| true,
+        |q| capped::scale(energy_at(energy, tables.counts, y, g, q), factor),
+    )
 }
 
 // Σ Dur·factor·gen in year y over the plants of which a test holds; the factor is the plant's number in table `t`.
-fn energy_of<F: Fn(usize) -> bool>(
+fn energy_of<P: Fn(usize) -> bool>(
     tables: &Tables,
     energy: &EnergyTable,
     t: usize,
     y: usize,
-    here: F,
+    here: P,
 ) -> Sum
-    requires { ((t < length table_sets) × (get_or table_sets t 0 ≡ [g])) × ((y < tables.now.counts.years) × ((g : ℕ) → g < tables.now.counts.plants → F.pre here g)) }
-    ensures { (p : ℕ → Bool) → ((g : ℕ) (b : Bool) → g < tables.now.counts.plants → F.post here g b → b ≡ p g)
+    requires { ((t < length table_sets) × (get_or table_sets t 0 ≡ [g])) × ((y < tables.now.counts.years) × ((g : ℕ) → g < tables.now.counts.plants → P.pre here g)) }
+    ensures { (p : ℕ → Bool) → ((g : ℕ) (b : Bool) → g < tables.now.counts.plants → P.post here g b → b ≡ p g)
         → result ≡ all_if tables.now.counts.plants p (λ g. year_energy tables.now.counts energy.now ((data_of tables.now).entry t 0 g 0 0) y g) }
 {
-    let mut total = capped::zero();
-    for g in 0..tables.counts.plants {
-        let factor = tables.by_plant(t, g);
-        total = add_energy_if(here(g), total, factor, energy, tables.counts, y, g);
-    }
-    total
+    sum_of(
+        tables.counts.plants,
+        here,
+        |g| year_energy(tables, energy, tables.by_plant(t, g), y, g),
+    )
 }
 
 // Σ Dur·HeatRate·gen over the plants of zone z and fuel f, in year y.

@@ -1,5 +1,5 @@
 -- Laws of the energies, filled place by place. Assumes nothing.
-use Rattle.std.specs.Prelude.{None}
+use Rattle.std.specs.Prelude.{Some}
 use mathlib.Core.Path.{◌≡◌, refl, sym, ap, ◌∙◌}
 use mathlib.Core.Logic.{⊎_elim}
 use mathlib.Core.List.{List}
@@ -40,7 +40,7 @@ part-season D {c} {plan} {part} {y = y} {g} {q} few e p hg hq er =
 -- every year, plant and season whose number is below `place` has its value
 pub record Filled (F : ℕ → ℕ → ℕ → Sum) (G Q : ℕ) (energy : List Sum) (place : ℕ) : Type 0 where
   pub long : length energy ≡ energy_count
-  pub is : (y g q : ℕ) → g < G → q < Q → (y * G + g) * Q + q < place → get_or energy ((y * G + g) * Q + q) None ≡ F y g q
+  pub is : (y g q : ℕ) → g < G → q < Q → (y * G + g) * Q + q < place → get_or energy ((y * G + g) * Q + q) (Some 0) ≡ F y g q
 
 module _ {F : ℕ → ℕ → ℕ → Sum} {G Q : ℕ} where
   pub fill_none : {energy : List Sum} → length energy ≡ energy_count → Filled F G Q energy 0
@@ -51,7 +51,7 @@ module _ {F : ℕ → ℕ → ℕ → Sum} {G Q : ℕ} where
       → Filled F G Q energy place → Filled F G Q (set energy place v) (place + 1)
   fill_one {energy} {place} v y g q hg hq e h w n = record { long = length-set energy place v ∙ n.long; is = go }
     where
-      go : (a b c : ℕ) → b < G → c < Q → (a * G + b) * Q + c < place + 1 → get_or (set energy place v) ((a * G + b) * Q + c) None ≡ F a b c
+      go : (a b c : ℕ) → b < G → c < Q → (a * G + b) * Q + c < place + 1 → get_or (set energy place v) ((a * G + b) * Q + c) (Some 0) ≡ F a b c
       go a b c hb hc l =
           let k = (a * G + b) * Q + c in
           let upto : k ≤ place = omega arith in
@@ -59,18 +59,22 @@ module _ {F : ℕ → ℕ → ℕ → Sum} {G Q : ℕ} where
           (λ (s : k ≡ place).
           let third = digits Q (a * G + b) (y * G + g) c q hc hq (s ∙ e) in
           let second = digits G a y b g hb hg third.0 in
-          rw (s, get_or-set_same energy place v None (omega (arith, n.long)), w, second.0, second.1, third.1))
-          (λ (s : k < place). get_or-set_other energy place k v None (omega arith) ∙ n.is a b c hb hc s)
+          rw (s, get_or-set_same energy place v (Some 0) (omega (arith, n.long)), w, second.0, second.1, third.1))
+          (λ (s : k < place). get_or-set_other energy place k v (Some 0) (omega arith) ∙ n.is a b c hb hc s)
           (eq-or-lt_of_le upto)
 
--- the place where a year's plants end
-pub year-end : {place g G : ℕ} (y Q : ℕ) → place ≡ (y * G + g) * Q → g ≡ G → place ≡ (y + 1) * G * Q
-year-end y Q e h = e ∙ rw h (omega arith)
+-- the same at another name of the place: where a season's loop ends the next plant's begins, and so on
+pub fill-same : {F : ℕ → ℕ → ℕ → Sum} {G Q m n : ℕ} {energy : List Sum} → m ≡ n → Filled F G Q energy m → Filled F G Q energy n
+fill-same e f = record { long = f.long; is = λ y g q hg hq h. f.is y g q hg hq (rw e h) }
 
-pub energies : {D : Data} {x : Index → ℕ} {energy : List Sum} {c : Counts} {place y : ℕ} → place ≡ y * c.plants * c.seasons → c.years ≤ y
-    → Filled (season_energy D x) c.plants c.seasons energy place → Energies D x energy c
-energies {c = c} {y = y} e h n =
+-- the place where a year's plants end
+pub year-end : {g G : ℕ} (y Q : ℕ) → g ≡ G → (y * G + g) * Q ≡ (y + 1) * G * Q
+year-end y Q h = rw h (omega arith)
+
+pub energies : {D : Data} {x : Index → ℕ} {energy : List Sum} {c : Counts} {y : ℕ} → c.years ≤ y
+    → Filled (season_energy D x) c.plants c.seasons energy (y * c.plants * c.seasons) → Energies D x energy c
+energies {c = c} {y = y} h n =
     record {
       long = n.long;
-      is = λ a b d ha hb hd. n.is a b d hb hd (rw e (below-product (y * c.plants) c.seasons (below-product y c.plants (omega arith) hb) hd));
+      is = λ a b d ha hb hd. n.is a b d hb hd (below-product (y * c.plants) c.seasons (below-product y c.plants (omega arith) hb) hd);
     }

@@ -4,7 +4,7 @@
 ghost use Rattle.energy.specs.Energies.{Energies};
 ghost use Rattle.tables.specs.Lists.{data_of, entry_of};
 
-use energy::totals::{EnergyTable, season_energy};
+use energy::totals::{EnergyTable, energy_place, season_energy};
 use parts::years::year_part;
 use tables::lists::Case;
 use tables::names::GEN;
@@ -13,13 +13,12 @@ use tables::names::GEN;
 pub fn fill_energies(case: &Case, energy: &mut EnergyTable)
     ensures { Energies (data_of case.now.tables) (entry_of case.now.plan) energy.new case.now.plan.counts }
 {
-    let mut place = 0;
     for y in 0..case.plan.counts.years {
         let outputs = year_part(&case.plan, GEN, y);
         for g in 0..case.plan.counts.plants {
             for q in 0..case.plan.counts.seasons {
+                let place = energy_place(case.plan.counts, y, g, q);
                 energy[place] = season_energy(&case.tables, outputs, g, q);
-                place += 1;
             }
         }
     }

@@ -19,6 +19,7 @@ use model::{Certificate, Refusal};
 use plan_tests::{column_count, lay_out_plan, test_plan};
 use prices::cost_of;
 use row_tests::test_rows;
+use rows::years::TestedCase;
 use tables::lists::Case;
 
 // Refusals 6, 7 and 8, and the cost.
@@ -28,7 +29,11 @@ fn price(case: &Case, scale: u32) -> Result<u64, Refusal>
 {
     let mut energy = [capped::zero(); ENERGY_COUNT];
     fill_energies(case, &mut energy);
-    test_rows(&*case, &energy, u64::from(scale))?;
+    let tested = TestedCase {
+        case,
+        energy: &energy,
+    };
+    test_rows(&tested, u64::from(scale))?;
     cost_of(case).ok_or(Refusal::CostOffScale)
 }
 

@@ -29,7 +29,7 @@ use Rattle.ranges.specs.declared.Range.{Range}
 use Rattle.tables.specs.Layout.{TablesAt, plan_entry}
 use Rattle.ranges.specs.Ranges.{ranged, range_of}
 use Rattle.row_sums.specs.declared.Sides.{Sides}
-use Rattle.row_sums.specs.Ready.{sides_of}
+use Rattle.row_sums.specs.Sides.{sides_of}
 use Rattle.column_terms.specs.declared.Pair.{Pair}
 use Rattle.column_terms.specs.Pairs.{priced_pair}
 use Rattle.figures.specs.declared.ColumnFigures.{ColumnFigures}

@@ -26,7 +26,7 @@ use plan_tests::lay_out_plan;
 use ranges::range_at;
 use row_sums::Sides;
 use rows::row_sides;
-use rows::years::year_of;
+use rows::years::{TestedCase, year_of};
 use sums::Place;
 use tables::lists::{Case, TestedTables, number_at};
 
@@ -57,7 +57,11 @@ pub fn row_figures(data: &[u32], scale: u32, plan: &[u32], p: Place) -> Sides
     let case = Case { tables, plan };
     let mut energy = [capped::zero(); ENERGY_COUNT];
     fill_energies(&case, &mut energy);
-    let year = year_of(&case, &energy, p.year);
+    let tested = TestedCase {
+        case: &case,
+        energy: &energy,
+    };
+    let year = year_of(&tested, p.year);
     row_sides(&year, u64::from(scale), p)
 }
 

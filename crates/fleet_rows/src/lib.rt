@@ -1,11 +1,11 @@
 // Families 12 to 20: the rows of the fleet: capacity, builds, fuel, capital and emissions.
-#![tactic(auto, unfolding(row_sums::specs::Ready::sides_of, row_sums::specs::Ready::sides_with, constants::specs::Constants::constant_of), using(row_sums::proofs::Laws::exact_sums))]
+#![tactic(auto, unfolding(row_sums::specs::Sides::sides_of, row_sums::specs::Sides::sides_with, constants::specs::Constants::constant_of), using(row_sums::proofs::Laws::exact_sums))]
 
 ghost use Rattle.std.specs.Prelude.{◌≡◌, not, ℕ, ◌<◌};
 ghost use Rattle.sums.specs.Index.{Index};
 ghost use Rattle.model.specs.Families.{row, out_of_service};
 ghost use Rattle.energy.specs.Energies.{Energies};
-ghost use Rattle.row_sums.specs.Ready.{sides_of};
+ghost use Rattle.row_sums.specs.Sides.{sides_of};
 ghost use Rattle.tables.specs.Lists.{data_of, entry_of};
 
 use energy::totals::{EnergyTable, burned, emitted, emitted_in};

@@ -12,7 +12,7 @@ ghost use Rattle.hour_costs.specs.Costs.{Hours, slices_cost, hourly_cost, hours_
 ghost use Rattle.tables.specs.Lists.{data_of, entry_of};
 
 use capped::Sum;
-use tables::lists::{Case, Entries, Plan, Tables};
+use tables::lists::{Case, Entries, Plan, Tables, number_at};
 use tables::names::{DURATION, GEN, RESERVE, SPINSHORT, SURPLUS, UNMET};
 use tables::sets::{inside_of, slices_of};
 use tables::starts::{column_box, column_set};
@@ -38,11 +38,10 @@ fn weighted_hours(tables: &Tables, part: &[u32]) -> Sum
     requires { length part.now ≡ slices_of tables.now.counts }
     ensures { result ≡ cap (sum (slices_of tables.now.counts) (λ s. duration (data_of tables.now) s * get_or part.now s 0)) }
 {
-    let mut total = capped::zero();
-    for (s, entry) in part.iter().enumerate() {
-        total = capped::add_product(total, tables.by_slice(DURATION, s), u64::from(*entry));
-    }
-    total
+    total(
+        part.len(),
+        |s| capped::product(tables.by_slice(DURATION, s), number_at(part, s)),
+    )
 }
 
 // Σ price·entry over the slices of plant or zone i in year y: the hours are summed first and priced once.

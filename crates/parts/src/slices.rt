@@ -1,4 +1,5 @@
 // The season, the day and the hour of a slice s = (q·D + d)·T + t.
+// `Counted` is asked: the reason stands beside it (tables/specs/Layout.antt).
 ghost use Rattle.std.specs.Prelude.{◌≡◌, ◌*◌, ◌/◌, ◌%◌, ◌<◌, ◌&&◌, eqb};
 ghost use Rattle.model.specs.Counts.{slices_of, season_length};
 ghost use Rattle.tables.specs.Layout.{Counted};

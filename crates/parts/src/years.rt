@@ -30,7 +30,8 @@ pub fn places_of(list: &[u32], from: usize, places: usize, y: usize) -> &[u32]
     &list[start..end]
 }
 
-// An entry of a year's part, by plant and slice.
+// An entry of a year's part, by plant and slice. `Counted` is asked: the reason stands beside it (tables/specs/Layout.antt).
+// The part's length is asked since the part is a bare slice: document 01 has a year's part as a slice part, handed on to row tests and to posting.
 pub fn part_at(part: &[u32], c: Counts, g: usize, s: usize) -> u64
     requires { Counted c × ((length part.now ≡ c.plants * slices_of c) × ((g < c.plants) × (s < slices_of c))) }
     ensures { (result ≡ get_or part.now (g * slices_of c + s) 0) × (result ≤ most32) }

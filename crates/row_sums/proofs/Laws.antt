@@ -17,7 +17,7 @@ use Rattle.parts.specs.Years.{YearPart}
 use Rattle.terms.proofs.Laws.{plus-on}
 use Rattle.constants.specs.declared.Constant.{Constant}
 use Rattle.row_sums.specs.declared.Sides.{Sides}
-use Rattle.row_sums.specs.Ready.{sides, sides_with}
+use Rattle.row_sums.specs.Sides.{sides, sides_with}
 
 -- Sums
 

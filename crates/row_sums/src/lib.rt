@@ -3,7 +3,7 @@
 
 ghost use Rattle.std.specs.Prelude.{◌≡◌};
 ghost use Rattle.capped.specs.Cap.{cap};
-ghost use Rattle.row_sums.specs.Ready.{sides_with, sides};
+ghost use Rattle.row_sums.specs.Sides.{sides_with, sides};
 
 use capped::Sum;
 use constants::{Constant, netted};

@@ -5,7 +5,7 @@ ghost use Rattle.std.specs.Prelude.{◌≡◌, ◌<◌};
 ghost use Rattle.sums.specs.Index.{index_of};
 ghost use Rattle.model.specs.Families.{family_of, family_count};
 ghost use Rattle.tables.specs.Layout.{Inside};
-ghost use Rattle.row_sums.specs.Ready.{sides_of};
+ghost use Rattle.row_sums.specs.Sides.{sides_of};
 ghost use Rattle.tables.specs.Lists.{data_of, entry_of};
 
 pub mod years;
@@ -32,15 +32,15 @@ use zone_rows::{balance, firm, spinning, transfer};
 // The kind of `p` is the row's family, counted from 0. The match over the families is the form that document 01 names.
 #[tactic(auto, unfolding(model::specs::Families::family_of), using(tables::proofs::Laws::last_arm))]
 pub fn row_sides(year: &Year, scale: u64, p: Place) -> Sides
-    requires { (p.year ≡ year.now.year) × ((p.kind < family_count) × (Inside year.now.case.now.plan.counts (family_of p.kind).set p.year p.first p.second p.slice)) }
-    ensures { result ≡ sides_of (data_of year.now.case.now.tables) scale (entry_of year.now.case.now.plan) (index_of p) }
+    requires { (p.year ≡ year.now.year) × ((p.kind < family_count) × (Inside year.now.tested.case.now.plan.counts (family_of p.kind).set p.year p.first p.second p.slice)) }
+    ensures { result ≡ sides_of (data_of year.now.tested.case.now.tables) scale (entry_of year.now.tested.case.now.plan) (index_of p) }
 {
-    let case = year.case;
+    let case = year.tested.case;
     let outputs = year.outputs;
     let reserves = year.reserves;
     let charges = year.charges;
     let levels = year.levels;
-    let energy = year.energy;
+    let energy = year.tested.energy;
     let y = year.year;
     let i = p.first;
     let j = p.second;

@@ -11,36 +11,42 @@ use parts::years::year_part;
 use tables::lists::Case;
 use tables::names::{CHARGE, GEN, LEVEL, RESERVE};
 
-// A year of a case: data that passed refusal 3, the year's parts of gen, reserve, charge and level, and the plants' energies in all years.
+// A case whose data passed refusal 3, with the plants' energies: what the rows of all years work on.
+#[derive(Clone, Copy)]
+pub struct TestedCase<'a> {
+    pub case: &'a Case<'a>,
+    pub energy: &'a EnergyTable,
+    pub ghost tested: { entries_fault (data_of case.now.tables) ≡ fine },
+    pub ghost energies: { Energies (data_of case.now.tables) (entry_of case.now.plan) energy.now case.now.plan.counts },
+}
+
+// A year of it, with the year's parts of gen, reserve, charge and level.
 #[derive(Clone, Copy)]
 pub struct Year<'a> {
-    pub case: &'a Case<'a>,
+    pub tested: TestedCase<'a>,
     pub year: usize,
     pub outputs: &'a [u32],
     pub reserves: &'a [u32],
     pub charges: &'a [u32],
     pub levels: &'a [u32],
-    pub energy: &'a EnergyTable,
-    pub ghost tested: { entries_fault (data_of case.now.tables) ≡ fine },
-    pub ghost generated: { YearPart case.now.plan.list.now outputs.now case.now.plan.counts gen_kind year },
-    pub ghost reserved: { YearPart case.now.plan.list.now reserves.now case.now.plan.counts reserve_kind year },
-    pub ghost charged: { YearPart case.now.plan.list.now charges.now case.now.plan.counts charge_kind year },
-    pub ghost held: { YearPart case.now.plan.list.now levels.now case.now.plan.counts level_kind year },
-    pub ghost energies: { Energies (data_of case.now.tables) (entry_of case.now.plan) energy.now case.now.plan.counts },
+    pub ghost generated: { YearPart tested.case.now.plan.list.now outputs.now tested.case.now.plan.counts gen_kind year },
+    pub ghost reserved: { YearPart tested.case.now.plan.list.now reserves.now tested.case.now.plan.counts reserve_kind year },
+    pub ghost charged: { YearPart tested.case.now.plan.list.now charges.now tested.case.now.plan.counts charge_kind year },
+    pub ghost held: { YearPart tested.case.now.plan.list.now levels.now tested.case.now.plan.counts level_kind year },
 }
 
 // The year with its parts of the plan.
-pub fn year_of<'a>(case: &'a Case<'a>, energy: &'a EnergyTable, y: usize) -> Year<'a>
-    requires { (entries_fault (data_of case.now.tables) ≡ fine) × ((Energies (data_of case.now.tables) (entry_of case.now.plan) energy.now case.now.plan.counts) × (y < case.now.plan.counts.years)) }
-    ensures { (result.case.now ≡ case.now) × (result.year ≡ y) }
+pub fn year_of<'a>(tested: &TestedCase<'a>, y: usize) -> Year<'a>
+    requires { y < tested.now.case.now.plan.counts.years }
+    ensures { (result.tested.case.now ≡ tested.now.case.now) × (result.year ≡ y) }
 {
+    let plan = &tested.case.plan;
     Year {
-        case,
+        tested: *tested,
         year: y,
-        outputs: year_part(&case.plan, GEN, y),
-        reserves: year_part(&case.plan, RESERVE, y),
-        charges: year_part(&case.plan, CHARGE, y),
-        levels: year_part(&case.plan, LEVEL, y),
-        energy,
+        outputs: year_part(plan, GEN, y),
+        reserves: year_part(plan, RESERVE, y),
+        charges: year_part(plan, CHARGE, y),
+        levels: year_part(plan, LEVEL, y),
     }
 }

@@ -1,5 +1,5 @@
 // Families 21 to 25: the rows of batteries. A plant that is no battery has empty rows of 21, 23 and 24; those of 22 and 25 hold its charge and level to 0.
-#![tactic(auto, unfolding(row_sums::specs::Ready::sides_of, row_sums::specs::Ready::sides_with, constants::specs::Constants::constant_of), using(row_sums::proofs::Laws::exact_sums))]
+#![tactic(auto, unfolding(row_sums::specs::Sides::sides_of, row_sums::specs::Sides::sides_with, constants::specs::Constants::constant_of), using(row_sums::proofs::Laws::exact_sums))]
 
 ghost use Rattle.std.specs.Prelude.{◌≡◌, List, ℕ, ◌+◌, ◌*◌, ◌-◌, ◌%◌, ◌<◌, ltb, length, get_or};
 ghost use Rattle.capped.specs.Cap.{cap};
@@ -7,22 +7,22 @@ ghost use Rattle.sums.specs.Sum.{on};
 ghost use Rattle.model.specs.Counts.{slices_of, [g]};
 ghost use Rattle.model.specs.Data.{is_battery};
 ghost use Rattle.model.specs.Families.{row, only};
-ghost use Rattle.tables.specs.Layout.{Counted, EntryAt, plan_entry};
+ghost use Rattle.tables.specs.Layout.{EntryAt, plan_entry};
 ghost use Rattle.parts.specs.Years.{YearPart, gen_kind, charge_kind, level_kind};
-ghost use Rattle.row_sums.specs.Ready.{sides_of, terms_of, ramp_of};
+ghost use Rattle.row_sums.specs.Sides.{sides_of, terms_of, ramp_of};
 ghost use Rattle.tables.specs.Layout.{table_sets};
 ghost use Rattle.tables.specs.Lists.{data_of, entry_of};
 
 use capped::Sum;
 use dispatch_rows::ramp;
 use fleet_constants::level_limit_constant;
-use model::Counts;
 use parts::slices::first_hour;
 use parts::years::part_at;
 use row_sums::{Change, Sides, at_most, empty};
 use tables::lists::{Case, Entries, Tables};
 use tables::names::{CAP, EFFICIENCY};
 
+// A year's part here and below is a bare slice, and each contract says what it is: document 01 has it as a slice part, handed on to row tests and posting.
 // 21 (42, 43), battery: level = level[s−1] (0 before a day's first slice) + Efficiency·charge − 1000·gen
 pub fn battery_level(
     tables: &Tables,
@@ -43,7 +43,7 @@ pub fn battery_level(
     let level = capped::product(1, part_at(levels, tables.counts, g, s));
     let above = capped::add_product(level, 1000, part_at(outputs, tables.counts, g, s));
     let efficiency = tables.by_plant(EFFICIENCY, g);
-    let earlier = earlier_level(levels, tables.counts, g, s);
+    let earlier = earlier_level(tables, levels, g, s);
     Sides {
         above,
         below: capped::add_product(earlier, efficiency, part_at(charges, tables.counts, g, s)),
@@ -51,14 +51,14 @@ pub fn battery_level(
 }
 
 // The level of the hour before, 0 before a day's first.
-fn earlier_level(levels: &[u32], c: Counts, g: usize, s: usize) -> Sum
-    requires { Counted c × ((length levels.now ≡ c.plants * slices_of c) × ((g < c.plants) × (s < slices_of c))) }
-    ensures { result ≡ cap (on (ltb 0 (s % c.hours)) (1 * get_or levels.now (g * slices_of c + (s - 1)) 0)) }
+fn earlier_level(tables: &Tables, levels: &[u32], g: usize, s: usize) -> Sum
+    requires { (length levels.now ≡ tables.now.counts.plants * slices_of tables.now.counts) × ((g < tables.now.counts.plants) × (s < slices_of tables.now.counts)) }
+    ensures { result ≡ cap (on (ltb 0 (s % tables.now.counts.hours)) (1 * get_or levels.now (g * slices_of tables.now.counts + (s - 1)) 0)) }
 {
-    if first_hour(c, s) {
+    if first_hour(tables.counts, s) {
         return capped::zero();
     }
-    capped::product(1, part_at(levels, c, g, s - 1))
+    capped::product(1, part_at(levels, tables.counts, g, s - 1))
 }
 
 // 22 (45): battery: charge ≤ cap; any other plant: charge ≤ 0

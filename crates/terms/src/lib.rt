@@ -1,4 +1,4 @@
-// Sums that rows are made of: over the plants of a zone, over years and slices. Those over linked zones are in `links`.
+// Sums that rows and prices are made of: of any terms, over the plants of a zone, and over years. Those over linked zones are in `links`.
 #![tactic(auto)]
 
 pub mod plants;

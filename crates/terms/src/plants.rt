@@ -13,6 +13,7 @@ use parts::years::part_at;
 use tables::lists::{Case, Entries, Tables};
 use tables::names::{ANNUITY, CAP, CAP_CREDIT, DURATION, KIND, RATE, VRE, WEIGHT, ZONE};
 
+// A year's part here and in `vre_sum` is a bare slice, so its length is asked: document 01 has it as a slice part, handed on to row tests and to posting.
 // A loop here and in `vre_sum`, and no `total`: a sum of terms takes half as long again, and the rows of each slice wait for these two.
 // 1000·Σ of a year's part over the plants of zone z, in slice s.
 pub fn zone_sum(tables: &Tables, part: &[u32], z: u64, s: usize) -> Sum

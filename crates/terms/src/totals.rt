@@ -34,6 +34,7 @@ pub fn exact_total<F: Fn(usize) -> u64>(n: usize, term: F) -> u64
 }
 
 // A product where a test holds, else 0.
+// The test is the condition under a sum (`on` of the definitions), and no switch: a closure that chooses a product or 0 takes five lines for this call.
 pub fn product_if(test: bool, a: u64, b: u64) -> Sum
     ensures { result ≡ cap (on test (a * b)) }
 {

@@ -19,7 +19,7 @@ use Rattle.model.specs.Data.{Data}
 use Rattle.model.specs.Families.{equal, row_number}
 use Rattle.model.specs.Tests.{above, below, constant⁺, constant⁻, unless, holds, row_fault}
 use Rattle.row_sums.specs.declared.Sides.{Sides}
-use Rattle.row_sums.specs.Ready.{sides_of}
+use Rattle.row_sums.specs.Sides.{sides_of}
 use Rattle.verdicts.specs.Rows.{verdict_of, ordered}
 
 -- two exact sums up to the limit: whether the row holds

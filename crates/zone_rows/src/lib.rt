@@ -1,5 +1,5 @@
 // Families 1 to 4: the rows of a zone.
-#![tactic(auto, unfolding(row_sums::specs::Ready::sides_of, row_sums::specs::Ready::sides_with, constants::specs::Constants::constant_of), using(row_sums::proofs::Laws::exact_sums))]
+#![tactic(auto, unfolding(row_sums::specs::Sides::sides_of, row_sums::specs::Sides::sides_with, constants::specs::Constants::constant_of), using(row_sums::proofs::Laws::exact_sums))]
 
 ghost use Rattle.std.specs.Prelude.{◌≡◌, ℕ, ◌+◌, ◌*◌, ◌<◌, eqb, length};
 ghost use Rattle.capped.specs.Cap.{cap};
@@ -11,7 +11,7 @@ ghost use Rattle.model.specs.Data.{zone};
 ghost use Rattle.model.specs.Families.{row};
 ghost use Rattle.model.specs.Tests.{entries_fault};
 ghost use Rattle.parts.specs.Years.{YearPart, gen_kind, reserve_kind, charge_kind};
-ghost use Rattle.row_sums.specs.Ready.{sides_of};
+ghost use Rattle.row_sums.specs.Sides.{sides_of};
 ghost use Rattle.model.specs.Columns.{column_sets};
 ghost use Rattle.tables.specs.Layout.{EntryAt};
 ghost use Rattle.tables.specs.Lists.{data_of, entry_of};
@@ -24,6 +24,7 @@ use tables::names::{ERR, FIRMSHORT, MW_PER_LINE, SPINSHORT, SURPLUS, TOTAL_LINES
 use terms::plants::{credit_sum, vre_sum, zone_sum};
 use zone_constants::{balance_constant, firm_constant, spinning_constant, transfer_constant};
 
+// A year's part here and below is a bare slice, and each contract says what it is: document 01 has it as a slice part, handed on to row tests and posting.
 // 1 (14): 1000·Σ gen in z − 1000·Σ charge in z − 1000·Σ trans[z,z2] + Σ (1000 − Loss[z2,z])·trans[z2,z] + unmet − surplus = Demand·EE
 pub fn balance(
     case: &Case,

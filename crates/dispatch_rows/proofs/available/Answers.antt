@@ -6,7 +6,7 @@ use Rattle.capped.proofs.Laws.{plus-cap}
 use Rattle.model.specs.Data.{read, duration}
 use Rattle.model.specs.Families.{available}
 use Rattle.energy.proofs.Laws.{season-is, available-energy}
-use Rattle.row_sums.specs.Ready.{sides_of}
+use Rattle.row_sums.specs.Sides.{sides_of}
 use Rattle.row_sums.proofs.Laws.{two-sums, plain}
 use Rattle.dispatch_rows.proofs.available.Goals as goal
 

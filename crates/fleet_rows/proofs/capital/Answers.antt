@@ -1,5 +1,5 @@
 use Rattle.constants.specs.Constants.{constant_of}
-use Rattle.row_sums.specs.Ready.{sides_of}
+use Rattle.row_sums.specs.Sides.{sides_of}
 use Rattle.row_sums.proofs.Laws.{limit}
 use Rattle.fleet_rows.proofs.capital.Goals as goal
 

@@ -6,7 +6,7 @@ use native.Mathlib.Omega.{arith}
 use lib.Dec.{eqb, ltb}
 use borrow.Author.Tests.{lt-ltb, ne_eqb}
 use Rattle.capped.specs.Cap.{cap, Sum}
-use Rattle.row_sums.specs.Ready.{sides_of}
+use Rattle.row_sums.specs.Sides.{sides_of}
 use Rattle.row_sums.proofs.Laws.{product_is, plus-is, two-sums, plain}
 use Rattle.fleet_rows.proofs.stock.Goals as goal
 

@@ -2,7 +2,7 @@ use mathlib.Core.Path.{◌∙◌}
 use Rattle.model.specs.Families.{system_emission}
 use Rattle.energy.proofs.Laws.{system-energy}
 use Rattle.constants.specs.Constants.{constant_of}
-use Rattle.row_sums.specs.Ready.{sides_of}
+use Rattle.row_sums.specs.Sides.{sides_of}
 use Rattle.row_sums.proofs.Laws.{limit}
 use Rattle.fleet_rows.proofs.system_emission.Goals as goal
 

@@ -1,5 +1,5 @@
 use Rattle.constants.specs.Constants.{netted_of}
-use Rattle.row_sums.specs.Ready.{sides_with}
+use Rattle.row_sums.specs.Sides.{sides_with}
 use Rattle.row_sums.proofs.with_constant.Goals as goal
 
 pub returns : goal.returns

@@ -8,7 +8,7 @@ use Rattle.row_tests.proofs.test_row.Goals as goal
 pub returns : goal.returns
 returns c =
     let a = c.args in
-    let case = c.args.year.now.case.now in
+    let case = c.args.year.now.tested.case.now in
     let counts = case.same_counts ∙ sym case.tables.laid_out.counts in
     c.verdict.ensures ∙ verdict-is _ _ _ (index_of c.args.p) c.row_sides-sides.ensures c.requires.1.1.1.0
     (c.requires.1.1.1.1 ∙ ap (λ (c : Counts). number (row_boxes c) (index_of a.p)) counts)

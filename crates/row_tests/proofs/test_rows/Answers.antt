@@ -24,8 +24,8 @@ loop-s-init c = none c.loop-j.invariant.accepted
 
 pub year_of-year-requires : goal.year_of-year-requires
 year_of-year-requires c =
-    let y = year-below _ c.walk-test.true c.family_at-f.ensures c.box_of-b.ensures.0 c.args.case.now.plan.counted c.loop-y-test.true in
-    (c.requires.0, (c.requires.1, y))
+    let y = year-below _ c.walk-test.true c.family_at-f.ensures c.box_of-b.ensures.0 c.args.tested.now.case.now.plan.counted c.loop-y-test.true in
+    y
 
 pub test_row-requires : goal.test_row-requires
 test_row-requires c =
@@ -74,7 +74,7 @@ walk-preserved c =
 
 pub returns-after-walk : goal.returns-after-walk
 returns-after-walk c =
-    c.walk.invariant.accepted ∙ answered _ _ _ (c.args.case.now.tables.laid_out.counts ∙ sym c.args.case.now.same_counts) (walked_all c.walk.invariant (families-end _ c.walk-test.false))
+    c.walk.invariant.accepted ∙ answered _ _ _ (c.args.tested.now.case.now.tables.laid_out.counts ∙ sym c.args.tested.now.case.now.same_counts) (walked_all c.walk.invariant (families-end _ c.walk-test.false))
 
 pub returns-in-Err : goal.returns-in-Err
 returns-in-Err c =
@@ -85,4 +85,4 @@ returns-in-Err c =
     let hs = c.loop-s-test.true in
     let b = box-is _ l c.family_at-f.ensures c.box_of-b.ensures.0 in
     let broken = outcome-fails _ (rw c.year_of-year.ensures.0 at c.test_row.ensures) c.in-Err.is in
-    answered _ _ _ (c.args.case.now.tables.laid_out.counts ∙ sym c.args.case.now.same_counts) (stopped c.walk.invariant (family-below _ l) b c.loop-y.invariant hy c.loop-i.invariant hi c.loop-j.invariant hj c.loop-s.invariant hs broken)
+    answered _ _ _ (c.args.tested.now.case.now.tables.laid_out.counts ∙ sym c.args.tested.now.case.now.same_counts) (stopped c.walk.invariant (family-below _ l) b c.loop-y.invariant hy c.loop-i.invariant hi c.loop-j.invariant hj c.loop-s.invariant hs broken)

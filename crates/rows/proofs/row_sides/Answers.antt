@@ -1,4 +1,4 @@
-use Rattle.row_sums.specs.Ready.{sides_of}
+use Rattle.row_sums.specs.Sides.{sides_of}
 use Rattle.row_sums.proofs.Laws.{plain-under}
 use Rattle.rows.proofs.row_sides.Goals as goal
 

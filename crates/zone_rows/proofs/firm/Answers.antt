@@ -1,6 +1,6 @@
 use mathlib.Core.Path.{refl, sym, ◌∙◌}
 use Rattle.constants.specs.Constants.{constant_of}
-use Rattle.row_sums.specs.Ready.{sides_of}
+use Rattle.row_sums.specs.Sides.{sides_of}
 use Rattle.row_sums.proofs.Laws.{constant, plus-is}
 use Rattle.zone_rows.proofs.firm.Goals as goal
 

@@ -4,7 +4,7 @@ use lib.Dec.{eqb}
 use Rattle.sums.specs.Sum.{on}
 use Rattle.model.specs.Data.{read, zone, is_vre, err}
 use Rattle.constants.specs.Constants.{constant_of}
-use Rattle.row_sums.specs.Ready.{sides_of}
+use Rattle.row_sums.specs.Sides.{sides_of}
 use Rattle.row_sums.proofs.Laws.{constant, plus-is, join_is}
 use Rattle.zone_rows.proofs.Laws.{part-sum}
 use Rattle.zone_rows.proofs.spinning.Goals as goal
