@@ -31,7 +31,7 @@ pub fn say_accepted(line: &mut Line<ROOM>, cost: u64, gap: u64)
 pub fn say_scale_taken(line: &mut Line<ROOM>, scal: &[u32])
     ensures { line.new ≡ added room line.old (scale_taken scal.now) }
 {
-    line.say_with(b"; the scale N is ", scale_in(scal) as u64);
+    line.say_with(b"; the scale N is ", u64::from(scale_in(scal)));
     line.say_either(
         scal.is_empty(),
         b", the default where there is no SCAL line",

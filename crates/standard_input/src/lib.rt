@@ -24,15 +24,15 @@ fn read_more<R: Read>(stdin: &mut R, input: &mut [u8], done: usize) -> io::Resul
 }
 
 // Reads until the input ends or the programs' buffer is full: how many bytes came. An input cut short by a failure is not answered.
+// No method of std stands for the loop: `read_to_end` needs a heap, and `read_exact` takes the input's end for a failure.
 pub fn read_input<R: Read>(stdin: &mut R, input: &mut [u8]) -> io::Result<usize>
     requires { length input.old ≡ input_bytes }
     ensures { Within result (length input.new) }
 {
     let mut done = 0;
-    while done < input.len() {
-        let Some(total) = read_more(stdin, input, done)? else {
-            break;
-        };
+    while done < input.len()
+        && let Some(total) = read_more(stdin, input, done)?
+    {
         done = total;
     }
     Ok(done)
@@ -49,10 +49,7 @@ fn drop_some<R: Read>(stdin: &mut R) -> bool {
 pub fn drop_rest<R: Read>(stdin: &mut R, turns: u64) -> u64
     ensures { result ≤ turns }
 {
-    for used in 0..turns {
-        if !drop_some(stdin) {
-            return turns - used;
-        }
-    }
-    0
+    (0..turns)
+        .find(|_| !drop_some(stdin))
+        .map_or(0, |used| turns - used)
 }

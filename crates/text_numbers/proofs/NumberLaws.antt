@@ -83,6 +83,22 @@ unfolding digits_at with_digit
 digits-stop l at i zero h f = absurd (omega arith)
 digits-stop l at i (suc w) h f = ⊎_elim (λ (p : i ≡ w). rw (← p, f) (with_none (digits_at l at i))) (λ (p : i < w). rw (← digits-stop l at i w p f)) (eq-or-lt_of_le (le_of_suc-le-suc h))
 
+-- Bytes from another place of a line write the same number
+
+pub digits_same : (k l : List ℕ) (p q w : ℕ) → ((j : ℕ) → j < w → get_or k (p + j) 0 ≡ get_or l (q + j) 0) → digits_at k p w ≡ digits_at l q w
+unfolding digits_at
+digits_same k l p q zero same = refl
+digits_same k l p q (suc w) same = rw (digits_same k l p q w (λ j h. same j (omega arith)), same w (omega arith))
+
+pub number_same : (k l : List ℕ) (p w : ℕ) → ((j : ℕ) → j < w + 1 → get_or k j 0 ≡ get_or l (p + j) 0) → number_at k 0 w ≡ number_at l p w
+unfolding number_at
+number_same k l p w same =
+    let behind : (j : ℕ) → p + (1 + j) ≡ p + 1 + j = λ j. omega arith in
+    let digits = digits_same k l 1 (p + 1) w (λ j h. same (1 + j) (omega arith) ∙ ap (λ (n : ℕ). get_or l n 0) (behind j)) in
+    let here : p + 0 ≡ p = omega arith in
+    let first : get_or k 0 0 ≡ get_or l p 0 = same 0 (omega arith) ∙ ap (λ (n : ℕ). get_or l n 0) here in
+    rw (first, digits)
+
 -- One byte that is no digit
 
 pub number-stop : (l : List ℕ) (at i w : ℕ) → i < w → digit (get_or l (at + 1 + i) 0) ≡ None → number_at l at w ≡ None

@@ -4,14 +4,14 @@
 ghost use Rattle.std.specs.Prelude.{◌≡◌, ◌+◌, ◌≤◌, length};
 ghost use Rattle.text_numbers.specs.Numbers.{digit, digits_at, number_at};
 
-// The value of a capital hexadecimal digit.
+// The value of a capital hexadecimal digit. By hand: `to_digit` and `from_str_radix` of the library take small letters too.
 #[tactic(auto, using(std::proofs::lemmas::Bool::Decides::nat_tests), unfolding(crate::specs::Numbers::digit))]
 fn digit_of(b: u8) -> Option<u64>
     ensures { result ≡ digit b }
 {
     match b {
-        b'0'..=b'9' => Some((b - b'0') as u64),
-        b'A'..=b'F' => Some((b - b'A') as u64 + 10),
+        b'0'..=b'9' => Some(u64::from(b - b'0')),
+        b'A'..=b'F' => Some(u64::from(b - b'A') + 10),
         _ => None,
     }
 }

@@ -2,14 +2,19 @@
 use mathlib.Core.Bool.{Bool, true, false, cond, ◌&&◌}
 use mathlib.Core.List.{List, [], ◌∷◌, ◌++◌, append_assoc, append-nil}
 use mathlib.Core.Logic.{⊎_elim}
-use mathlib.Core.Path.{◌≡◌, refl, sym, ◌∙◌}
+use mathlib.Core.Path.{◌≡◌, refl, sym, ap, ◌∙◌}
 use Prim.Native.Nat.{ℕ, zero, suc, ◌+◌, ◌*◌, ◌-◌, ◌/◌, ◌%◌, ◌≤◌, ◌<◌}
 use native.Mathlib.Nat.{div-add-mod', mul-le-mul_right, eq-or-lt_of_le, le_of_suc-le-suc}
 use native.Mathlib.Numerals.{add-one}
 use native.Mathlib.Omega.{arith}
 use lib.Dec.{eqb, leb}
-use lib.ListN.{length}
+use lib.ListN.{length, get_or, take, drop}
+use lib.Seq.{take_all}
 use borrow.Author.Tests.{leb-true, eqb-true, le-leb, lt-leb}
+use Rattle.std.proofs.Common.{inl, inr}
+use Rattle.std.proofs.Math.Seq.{drop-append_seam}
+use Rattle.std.proofs.lemmas.Bool.{cases_lt}
+use Rattle.std.proofs.lemmas.List.{get_or-drop, get_or_append_left, drop-drop, length-append, length-drop}
 use Rattle.std.specs.Prelude.{Option, Some, None}
 use Rattle.text_numbers.specs.Numbers.{number_at}
 use Rattle.texts.specs.Format.{word_length, most_on_line, count, one_more_number, numbers, after, join}
@@ -39,9 +44,50 @@ counted len w n e some-numbers = go (leb word_length len) (eqb ((len - word_leng
     go true false r hp hq hr f = absurd (some-numbers f)
     go false q r hp hq hr f = absurd (some-numbers f)
 
--- the bytes of its number i, from 0
-pub number-inside : {len w n i : ℕ} → Counted len w n → i < n → word_length + i * (w + 1) + 1 + w ≤ len
-number-inside {w = w} c h = omega (arith, c.long, mul-le-mul_right (w + 1) h)
+-- The code goes over the bytes behind the word, as many at a time as a number and its space take.
+
+-- as long as that many are left there are more numbers
+pub number-left : {len w n i : ℕ} → Counted len w n → word_length + i * (w + 1) + (w + 1) ≤ len → i < n
+number-left {w = w} {n = n} {i = i} c h = elim (cases_lt i n) [
+  | inl less ↦ less
+  | inr most ↦ absurd (omega (arith, c.long, h, mul-le-mul_right (w + 1) most))
+]
+
+-- where fewer are left, all numbers came
+pub no_number_left : {len w n i : ℕ} → Counted len w n → word_length + i * (w + 1) ≤ len → len - (word_length + i * (w + 1)) < w + 1 → i ≡ n
+no_number_left {w = w} {n = n} {i = i} c inside short = elim (cases_lt i n) [
+  | inl less ↦ absurd (omega (arith, c.long, inside, short, mul-le-mul_right (w + 1) less))
+  | inr most ↦ elim (cases_lt n i) [
+    | inl more ↦ absurd (omega (arith, c.long, inside, mul-le-mul_right (w + 1) more))
+    | inr least ↦ omega arith
+  ]
+]
+
+-- the place of the number behind number i
+pub next-place : (i w : ℕ) → word_length + (i + 1) * (w + 1) ≡ word_length + i * (w + 1) + (w + 1)
+next-place i w = rw (add-one i) (omega arith)
+
+-- a part of a line: so many of its bytes from a place on
+pub record PartOf (l : List ℕ) (at size : ℕ) (part rest : List ℕ) : Type 0 where
+  pub bytes : (j : ℕ) → j < size → get_or part j 0 ≡ get_or l (at + j) 0
+  pub left : rest ≡ drop (at + size) l
+  pub inside : at + size ≤ length l
+
+pub part-of : (l left part rest : List ℕ) (at size : ℕ) → left ≡ drop at l → left ≡ part ++ rest → length part ≡ size → at ≤ length l → PartOf l at size part rest
+part-of l left part rest at size dropped cut long inside =
+    let whole : drop at l ≡ part ++ rest = sym dropped ∙ cut in
+    let lengths = ap length whole in
+    record {
+      bytes = λ j h. sym (get_or_append_left part rest 0 j (omega arith)) ∙ (ap (λ (k : List ℕ). get_or k j 0) (sym whole) ∙ get_or-drop at l j 0);
+      left = rw (← long, ← drop-drop (length part) at l, whole) (sym (drop-append_seam part rest));
+      inside = omega (arith, lengths, length-append part rest, length-drop at l);
+    }
+
+-- before the first number they are all that follow the word
+pub behind_word : (l : List ℕ) (w : ℕ) → take (length l - word_length) (drop word_length l) ≡ drop (word_length + 0 * (w + 1)) l
+behind_word l w =
+    let start : word_length + 0 * (w + 1) ≡ word_length = omega arith in
+    rw start (take_all (length l - word_length) (drop word_length l) (omega (arith, length-drop word_length l)))
 
 module _ {A : Type 0} (value : ℕ → A) (w : ℕ) (l : List ℕ) where
   one_none : (o : Option (List A)) → one_more_number value o None ≡ None

@@ -46,6 +46,7 @@ impl FromDigits for u32 {
 
     ghost few = { lit≤ tt };
 
+    // Eight digits fit, so `as` is proved to lose nothing; `u32::try_from` would add a failure that cannot come. `narrow` of `ranges` has the same cast, of another type.
     fn from_digits(v: u64) -> u32 {
         v as u32
     }
@@ -107,8 +108,8 @@ pub(crate) fn join<T: FromDigits, const MOST: usize>(
     if numbers.remaining_capacity() < count {
         return None; // more numbers than may come, a second SCAL line among them
     }
-    for i in 0..count {
-        let v = number_at(line, WORD_LENGTH + i * (width + 1), width)?;
+    for number in line[WORD_LENGTH..].chunks_exact(width + 1) {
+        let v = number_at(number, 0, width)?;
         numbers.push(T::from_digits(v));
     }
     Some(())

@@ -128,3 +128,6 @@ module _ {A : Type 0} (lists : List (Bor (List A))) (k : ℕ) where
 pub added-fitting : (size : ℕ) (l p : List ℕ) → length l + length p ≤ size → added size l p ≡ l ++ p
 unfolding added
 added-fitting size l p h = rw (take_all (size - length l) p (omega arith))
+
+-- the laws of a name that is asked for
+pub ruleset names_by_number = added-none, list-found, list-past

@@ -53,6 +53,7 @@ impl<const SIZE: usize> Line<SIZE> {
     }
 
     // Adds a number in decimal.
+    #[tactic(auto, using(crate::proofs::Laws::shown_decimal))]
     pub fn say_number(&mut self, number: u64)
         ensures { self.new ≡ added SIZE self.old (decimal number) }
     {
@@ -69,6 +70,7 @@ impl<const SIZE: usize> Line<SIZE> {
     }
 
     // Adds the words `yes` where a test held, else the words `no`.
+    // `holds` is what is told, and no switch on a step: either way words are added. As an `if` at each caller, each would have to prove the choice.
     pub fn say_either(&mut self, holds: bool, yes: &[u8], no: &[u8])
         ensures { self.new ≡ added SIZE self.old (cond holds yes.now no.now) }
     {
@@ -76,6 +78,7 @@ impl<const SIZE: usize> Line<SIZE> {
     }
 
     // Adds the name of number `k`.
+    #[tactic(auto, using(crate::proofs::Laws::names_by_number), unfolding(crate::specs::Names::name_at))]
     pub fn say_name(&mut self, names: &[&str], k: usize)
         ensures { self.new ≡ added SIZE self.old (name_at (map (λ name. name.now) names.now) k) }
     {

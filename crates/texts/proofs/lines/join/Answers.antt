@@ -1,8 +1,10 @@
 use mathlib.Core.Path.{◌≡◌, sym, ◌∙◌}
 use native.Mathlib.Omega.{arith}
+use Prim.Native.Nat.{◌+◌}
+use Rattle.std.proofs.lemmas.List.{length-drop}
 use borrow.Author.Rules.{rules}
-use Rattle.texts.proofs.LineLaws.{counted, number-inside, join-none, join-over, join_reads, join-stops, joined_none, joined_more}
-use Rattle.text_numbers.proofs.NumberLaws.{number-low}
+use Rattle.texts.proofs.LineLaws.{counted, number-left, no_number_left, part-of, behind_word, next-place, join-none, join-over, join_reads, join-stops, joined_none, joined_more}
+use Rattle.text_numbers.proofs.NumberLaws.{number-low, number_same}
 use Rattle.texts.proofs.lines.join.Goals as goal
 
 pub returns-in_err-count : goal.returns-in_err-count
@@ -15,41 +17,70 @@ returns-then-remaining_capacity-count g c =
     let n = c.in_ok-count.ensures in
     join-over _ _ _ _ _ _ (rw c.DIGITS-width.ensures at n.counted) n.some (omega (arith, c.remaining_capacity.ensures))
 
-pub loop-i-init : goal.loop-i-init
-loop-i-init g c = record { upto = omega arith; so = joined_none _ _ _ _ }
+pub slice_bounds-chunks_exact-count : goal.slice_bounds-chunks_exact-count
+slice_bounds-chunks_exact-count g c = omega (arith, (counted _ _ _ c.in_ok-count.ensures.counted (search rules)).long)
 
-pub overflow_mul-i : goal.overflow_mul-i
-overflow_mul-i g c = record { fits = omega (arith, number-inside (counted _ _ _ c.in_ok-count.ensures.counted (search rules)) c.loop-i-test.true) }
+pub slice_bounds-chunks_exact-start : goal.slice_bounds-chunks_exact-start
+slice_bounds-chunks_exact-start g c = omega (arith, (counted _ _ _ c.in_ok-count.ensures.counted (search rules)).long)
 
-pub overflow_add-i : goal.overflow_add-i
-overflow_add-i g c = record { fits = omega (arith, number-inside (counted _ _ _ c.in_ok-count.ensures.counted (search rules)) c.loop-i-test.true) }
-
-pub number_at-requires : goal.number_at-requires
-number_at-requires g c =
-    (number-inside (counted _ _ _ c.in_ok-count.ensures.counted (search rules)) c.loop-i-test.true, rw c.DIGITS-width.ensures g.met.T.FromDigits.few)
+pub loop-number-init : goal.loop-number-init
+loop-number-init g c =
+    let all = c.chunks_exact-number-items.ensures in
+    let same = c.into_iter-number-iterator.ensures.into_iter_gives in
+    record {
+      goes = rw (same, all.size) (omega arith);
+      size = rw (same, all.size, c.DIGITS-width.ensures);
+      i = 0;
+      inside = omega (arith, (counted _ _ _ c.in_ok-count.ensures.counted (search rules)).long);
+      left = rw (same, all.rest) (behind_word _ _);
+      upto = omega arith;
+      so = joined_none _ _ _ _;
+    }
 
 pub returns-in_err-v : goal.returns-in_err-v
 returns-in_err-v g c =
     let n = c.in_ok-count.ensures in
+    let whole = rw c.DIGITS-width.ensures at n.counted in
+    let i = c.loop-number.invariant in
+    let step = c.in-Some.ensures.steps.1 in
+    let part = part-of _ _ _ _ _ _ i.left step.0 (step.1 ∙ i.size) i.inside in
     let none = rw c.DIGITS-width.ensures at (sym c.number_at.ensures ∙ c.in_err-v.was) in
-    rw c.from_residual-in_err-v.ensures (join-stops _ _ _ _ _ _ (rw c.DIGITS-width.ensures at n.counted) n.some (omega (arith, c.remaining_capacity.ensures, c.if-remaining_capacity-count.false)) _ c.loop-i-test.true none)
+    rw c.from_residual-in_err-v.ensures
+    (join-stops _ _ _ _ _ _ whole n.some (omega (arith, c.remaining_capacity.ensures, c.if-remaining_capacity-count.false)) _ (number-left (counted _ _ _ whole (search rules)) part.inside) (sym (number_same _ _ _ _ part.bytes) ∙ none))
 
 pub from_digits-requires : goal.from_digits-requires
-from_digits-requires g c = number-low c.args.line.now _ _ (rw c.DIGITS-width.ensures at (sym c.number_at.ensures ∙ c.in_ok-v.was))
+from_digits-requires g c = number-low c.in-Some.number.now _ _ (rw c.DIGITS-width.ensures at (sym c.number_at.ensures ∙ c.in_ok-v.was))
 
-pub loop-i-preserved : goal.loop-i-preserved
-loop-i-preserved g c =
-    let i = c.loop-i.invariant in
-    let p = c.push.ensures in
+pub push-requires : goal.push-requires
+push-requires g c =
+    let i = c.loop-number.invariant in
+    let step = c.in-Some.ensures.steps.1 in
+    let part = part-of _ _ _ _ _ _ i.left step.0 (step.1 ∙ i.size) i.inside in
+    let whole = rw c.DIGITS-width.ensures at c.in_ok-count.ensures.counted in
+    (search rules, omega (arith, number-left (counted _ _ _ whole (search rules)) part.inside, i.upto, c.remaining_capacity.ensures, c.if-remaining_capacity-count.false))
+
+pub loop-number-preserved : goal.loop-number-preserved
+loop-number-preserved g c =
+    let i = c.loop-number.invariant in
+    let steps = c.in-Some.ensures.steps in
+    let part = part-of _ _ _ _ _ _ i.left steps.1.0 (steps.1.1 ∙ i.size) i.inside in
     let number = rw c.DIGITS-width.ensures at (sym c.number_at.ensures ∙ c.in_ok-v.was) in
+    let p = c.push.ensures in
     record {
+      goes = rw steps.0 i.goes;
+      size = steps.0 ∙ i.size;
+      i = i.i + 1;
+      inside = rw next-place part.inside;
+      left = rw next-place part.left;
       upto = omega (arith, p.len, i.upto);
-      so = rw (p.items, c.from_digits.ensures) (joined_more _ _ _ _ _ _ _ i.so number);
+      so = rw (p.items, c.from_digits.ensures) (joined_more _ _ _ _ _ _ _ i.so (sym (number_same _ _ _ _ part.bytes) ∙ number));
     }
 
 pub returns : goal.returns
 returns g c =
     let n = c.in_ok-count.ensures in
-    let i = c.loop-i.invariant in
-    let e : c.loop-i.i ≡ c.in_ok-count.count = omega (arith, c.loop-i-test.false, c.loop-i.auto.i-end) in
-    sym (join_reads _ _ _ _ _ _ (rw c.DIGITS-width.ensures at n.counted) n.some (omega (arith, c.remaining_capacity.ensures, c.if-remaining_capacity-count.false)) ∙ rw e at i.so)
+    let whole = rw c.DIGITS-width.ensures at n.counted in
+    let i = c.loop-number.invariant in
+    let short = rw (i.left, i.size, length-drop) at c.in-None.ensures.steps.1.0 in
+    let all : i.i ≡ c.in_ok-count.count = no_number_left (counted _ _ _ whole (search rules)) i.inside short in
+    sym (join_reads _ _ _ _ _ _ whole n.some (omega (arith, c.remaining_capacity.ensures, c.if-remaining_capacity-count.false)) ∙ rw all at i.so)
