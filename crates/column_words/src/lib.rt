@@ -39,7 +39,7 @@ const COLUMN_NAMES: [&str; 14] = [
     "total",
 ];
 
-// A column's number, table and indices. Its index set's member is returned.
+// A column's number, table and indices. Its kind and indices are returned.
 fn say_column(line: &mut Line<ROOM>, data: &[u32], column: usize) -> Place
     requires { (data_fault «data».now ≡ fine) × (column < count (column_boxes (read «data».now).counts)) }
     ensures member { Numbered (column_boxes (read «data».now).counts) column result }

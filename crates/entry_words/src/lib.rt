@@ -75,7 +75,7 @@ const TABLE_NAMES: [&str; 48] = [
     "line annuity",
 ];
 
-// An entry's place in the list, table and indices. Its index set's member is returned.
+// An entry's place in the list, table and indices. Its kind and indices are returned.
 fn say_entry(line: &mut Line<ROOM>, data: &[u32], entry: usize) -> Place
     requires { OfEntry «data».now entry }
     ensures member { Member (table_boxes (read «data».now).counts) (index_of result) × (place_of (read «data».now).counts (index_of result) ≡ entry) }

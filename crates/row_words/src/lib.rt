@@ -69,7 +69,7 @@ fn say_equation(line: &mut Line<ROOM>, equation: u32)
     }
 }
 
-// A row's number, equation with its name, and indices. Its index set's member is returned.
+// A row's number, equation with its name, and indices. Its kind and indices are returned.
 fn say_row(line: &mut Line<ROOM>, data: &[u32], row: usize) -> Place
     requires { (data_fault «data».now ≡ fine) × (row < count (row_boxes (read «data».now).counts)) }
     ensures member { Numbered (row_boxes (read «data».now).counts) row result }

@@ -1,7 +1,7 @@
 use lib.ListN.{get_or}
 use Rattle.writer.proofs.Laws.{said-joined}
 use Rattle.data_tests.proofs.Passed.{passed-long, passed-counts, counts-read}
-use Rattle.tables.specs.Layout.{table_sets}
+use Rattle.tables.specs.Layout.{Counted, table_sets}
 use Rattle.tables.proofs.Members.{entry-inside}
 use Rattle.sentences.specs.Sentences.{entry_words}
 use Rattle.index_words.proofs.Laws.{low-inside}
@@ -19,7 +19,7 @@ table_set-set-requires c = (entry-inside c.counts_of-c.result c.entry_place-p.en
 
 pub say_place-requires : goal.say_place-requires
 say_place-requires c =
-    let counted = rw c.counts_of-c.ensures (passed-counts _ c.requires.0) in
+    let counted : Counted c.counts_of-c.result = rw c.counts_of-c.ensures (passed-counts _ c.requires.0) in
     let p = c.entry_place-p.result in
     (counted, low-inside counted (get_or table_sets p.kind 0) p (entry-inside c.counts_of-c.result c.entry_place-p.ensures.0).1)
 

@@ -4,4 +4,4 @@ use Rattle.entry_words.proofs.say_scale.Goals as goal
 
 pub returns : goal.returns
 unfolding scale_words
-returns c = said-joined _ _ _ _ c.say.ensures c.say_range.ensures
+returns c = rw (← c.from.ensures) (said-joined _ _ _ _ c.say.ensures c.say_range.ensures)

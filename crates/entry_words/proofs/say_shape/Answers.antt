@@ -5,7 +5,7 @@ use Rattle.entry_words.proofs.say_shape.Goals as goal
 pub returns : goal.returns
 unfolding shape_words
 returns c =
-    rw (← c.number_at-is.ensures.0, ← c.most_count-most.ensures)
+    rw (← c.number_at-is.ensures.0, ← c.most_count.ensures, ← c.from-most.ensures)
     (said-joined _ _ _ _ c.say_with.ensures
     (said-joined _ _ _ _ c.say.ensures
     (said-joined _ _ _ _ c.say_name.ensures
