@@ -1,5 +1,6 @@
 // The published calls: check, certify and post. Each takes any lists, and answers on every input. Its contract says the answer in document 01's
-// number and values (`answer_code`, `certificate_code`), and as the `Result` that callers match on.
+// number and values (`answer_code`, `certificate_code`), and as the `Result` that callers match on. Data, scale and plan are parameters and no struct: the C
+// calls hand them over one by one, and nothing is known of them before the tests.
 #![tactic(auto)]
 
 ghost use Rattle.std.specs.Prelude.{◌≡◌};
@@ -28,6 +29,7 @@ fn price(case: &Case, scale: u32) -> Result<u64, Refusal>
 {
     let mut energy = [capped::zero(); ENERGY_COUNT];
     fill_energies(case, &mut energy);
+    // Lent again: the walk takes the case for as long as `energy` stands, and the check proves no `&` that is passed on as it is for a shorter time.
     test_rows(&*case, &energy, u64::from(scale))?;
     cost_of(case).ok_or(Refusal::CostOffScale)
 }
