@@ -17,7 +17,7 @@ fn at(number: u32, place: usize) -> Code
     }
 }
 
-// The number and the place of a refusal. No `From`: it would have to stand in `model` beside `Code`, where each edit of a definition would check it again.
+// The number and the place of a refusal, by the definitions' word for it. `Code::from(refusal)` would say less, and could stand only beside `Code`, in `model`.
 #[tactic(auto, unfolding(model::specs::Calls::code_of))]
 pub fn code_of(refusal: Refusal) -> Code
     ensures { result ≡ code_of refusal }

@@ -1,4 +1,5 @@
 // The calls for C and Rust. Each slice passes as a pointer and a length; `out` takes an answer's two figures.
+// C has no `Result`, no lent struct and no two returned values: so a number comes back, the lists are parameters, and the figures go into `out`.
 #![tactic(auto)]
 
 ghost use Rattle.std.specs.Prelude.{◌≡◌, ◌<◌, ◌≤◌, length};
@@ -24,7 +25,8 @@ pub extern "C" fn epm_check(data: &[u32], scale: u32, plan: &[u32], out: &mut [u
     put(out, answer_code(epm::check(data, scale, plan)))
 }
 
-// 0 with the cost in out[0] and the gap in out[1]; else as epm_check. Demand 3 is the last part of its contract: where 0 comes back, these two figures bind every rival plan.
+// 0 with the cost in out[0] and the gap in out[1]; else as epm_check.
+// Demand 3 is the last part of its contract: where 0 comes back, these two figures bind every rival plan.
 #[unsafe(no_mangle)]
 #[tactic(auto, unfolding(crate::specs::Exports::status, crate::specs::Exports::written))]
 pub extern "C" fn epm_certify(

@@ -9,8 +9,8 @@ ghost use Rattle.tables.specs.Lists.{data_of};
 use constants::{Constant, NONE};
 use tables::lists::{Entries, Tables};
 use tables::names::{
-    BUILD_LIMIT, ENERGY_CAPACITY, GEN_CAP, MAX_CAPITAL, MAX_FUEL, MAX_NEW_CAP, SYSTEM_CAP,
-    WEIGHT, ZONE_CAP,
+    BUILD_LIMIT, ENERGY_CAPACITY, GEN_CAP, MAX_CAPITAL, MAX_FUEL, MAX_NEW_CAP, SYSTEM_CAP, WEIGHT,
+    ZONE_CAP,
 };
 
 // 12: existing, first year: − GenCap

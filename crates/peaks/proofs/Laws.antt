@@ -2,15 +2,15 @@
 use mathlib.Core.Path.{◌≡◌, refl, sym, ap, ◌∙◌}
 use mathlib.Core.List.{List}
 use Prim.Native.Nat.{ℕ, ◌+◌, ◌*◌, ◌-◌, ◌≤◌, ◌<◌, max}
-use native.Mathlib.Nat.{add-sub_cancel_left, mul-le-mul, mul-pos, sub-zero}
+use native.Mathlib.Nat.{add-sub_cancel_left, mul-pos, mul-one, add-zero, sub-zero}
 use native.Mathlib.Omega.{arith}
 use lib.ListN.{length, get_or, take, drop, length-drop}
 use lib.Seq.{take_all, get_or-take, get_or-drop, length-take-le}
 use Rattle.sums.specs.Sum.{largest}
 use Rattle.sums.proofs.Largest.{largest-same, largest-one, highest, highest-halves}
-use Rattle.sums.proofs.Numbering.{below-product}
 use Rattle.model.specs.declared.Counts.{Counts}
-use Rattle.model.specs.Counts.{slices_of, [yzs]}
+use Rattle.sums.specs.Index.{box_of, inside}
+use Rattle.model.specs.Counts.{sets, slices_of, [yzs]}
 use Rattle.model.specs.Data.{read, peak}
 use Rattle.tables.specs.Layout.{TablesAt, EntryAt, table_sets}
 use Rattle.tables.proofs.Laws.{entry-below, entry-is}
@@ -55,11 +55,13 @@ module _ {l tables-at : List ℕ} {c : Counts} {y z : ℕ} (n : TablesAt l table
       (λ s h. get_or-take (slices_of c) (drop demand_from l) s 0 h ∙ get_or-drop demand_from l s 0
       ∙ ap (λ (k : ℕ). get_or l k 0) (omega arith) ∙ entry-is n (demand-read s h)))
 
-  -- the same with the number of slices in a local, as the code has it
-  module _ {m : ℕ} (e : m ≡ slices_of c) where
-    pub part-below : (y * c.zones + z ≤ 79) × (get_or tables-at 25 0 + (y * c.zones + z) * m + m ≤ length l)
-    part-below =
-        (omega (arith, below-product c.years c.zones hy hz, mul-le-mul n.counted.few_years n.counted.few_zones), rw e demand-below)
+  -- the same with the number of slices and the place of the first in locals, as the code has it
+  module _ {m o : ℕ} (e : m ≡ slices_of c) (first-slice : o ≡ inside (box_of (sets c) [yzs]) y z 0 0) where
+    place : o ≡ (y * c.zones + z) * slices_of c
+    place = first-slice ∙ simp (mul-one, add-zero)
 
-    pub part-peak : {r : ℕ} → (let from = get_or tables-at 25 0 + (y * c.zones + z) * m in r ≡ highest (take (from + m - from) (drop from l))) → r ≡ peak (read l) y z
-    part-peak h = h ∙ rw (add-sub_cancel_left, e) demand-peak
+    pub part_below : get_or tables-at 25 0 + o + m ≤ length l
+    part_below = rw (place, e) demand-below
+
+    pub part-peak : {r : ℕ} → (let from = get_or tables-at 25 0 + o in r ≡ highest (take (from + m - from) (drop from l))) → r ≡ peak (read l) y z
+    part-peak h = h ∙ rw (add-sub_cancel_left, place, e) demand-peak

@@ -8,13 +8,13 @@ ghost use Rattle.tables.specs.Lists.{data_of};
 
 use tables::lists::Tables;
 use tables::names::DEMAND;
-use tables::sets::slices_of;
+use tables::sets::{BY_YEAR_ZONE_SLICE, inside_of, slices_of};
 
 // The peak of a span is the larger of its halves' peaks, and a single slice's is its Demand.
 fn peak_of(demand: &[u32]) -> u32
     ensures { result ≡ largest (length demand.now) (λ i. get_or demand.now i 0) }
 {
-    if demand.len() == 0 {
+    if demand.is_empty() {
         return 0;
     }
     if demand.len() == 1 {
@@ -27,12 +27,13 @@ fn peak_of(demand: &[u32]) -> u32
 }
 
 // The largest Demand[y,z,·].
+#[tactic(auto, using(crate::proofs::Laws::part_below))]
 pub fn zone_peak(tables: &Tables, y: usize, z: usize) -> u64
     requires { (y < tables.now.counts.years) × (z < tables.now.counts.zones) }
     ensures { (result ≡ peak (data_of tables.now) y z) × (result ≤ most32) }
 {
     let n = slices_of(tables.counts);
-    let from = tables.starts[DEMAND] + (y * tables.counts.zones + z) * n;
+    let from = tables.starts[DEMAND] + inside_of(tables.counts, BY_YEAR_ZONE_SLICE, y, z, 0, 0);
     let to = from + n;
     u64::from(peak_of(&tables.list[from..to]))
 }

@@ -11,7 +11,7 @@ use model::{COLUMN_KIND_COUNT, Counts, Refusal};
 use tables::lists::Plan;
 use tables::starts::column_starts;
 
-// The number of columns, the length of a plan.
+// The number of columns, the length of a plan. `Counted` is asked: the reason stands beside it (tables/specs/Layout.antt).
 #[tactic(auto, using(crate::proofs::Laws::last_start))]
 pub fn column_count(counts: Counts) -> usize
     requires { Counted counts }
@@ -34,7 +34,7 @@ pub fn test_plan(scale: u32, places: usize, columns: usize) -> Result<(), Refusa
     Ok(())
 }
 
-// A plan of the right length, with the starts of its tables.
+// A plan of the right length, with the starts of its tables. `Counted` is asked: the reason stands beside it (tables/specs/Layout.antt).
 pub fn lay_out_plan<'a>(list: &'a [u32], counts: Counts) -> Plan<'a>
     requires { Counted counts × (length list.now ≡ count (column_boxes counts)) }
     ensures { (result.list.now ≡ list.now) × (result.counts ≡ counts) }

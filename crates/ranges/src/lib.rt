@@ -24,7 +24,7 @@ pub struct Range {
 pub fn in_range(r: Range, x: u32) -> bool
     ensures { result ≡ within (ranged r) x }
 {
-    r.least <= x && x <= r.most
+    (r.least..=r.most).contains(&x)
 }
 
 const ANY: Range = Range {

@@ -1,5 +1,5 @@
 // Families 1 to 4 and 27: the constants of the rows of a zone and of a pair of zones.
-#![tactic(auto)]
+#![tactic(auto, unfolding(constants::specs::Constants::constant_of))]
 
 ghost use Rattle.std.specs.Prelude.{◌≡◌, ◌<◌};
 ghost use Rattle.model.specs.Counts.{slices_of};
