@@ -115,12 +115,9 @@ pub fn minimum_load(case: &Case, outputs: &[u32], y: usize, g: usize, s: usize) 
     requires { YearPart case.now.plan.list.now outputs.now case.now.plan.counts gen_kind y × ((y < case.now.plan.counts.years) × ((g < case.now.plan.counts.plants) × (s < slices_of case.now.plan.counts))) }
     ensures { (N : ℕ) → result ≡ sides_of (data_of case.now.tables) N (entry_of case.now.plan) (row 9 y g 0 s) }
 {
-    if case.tables.by_day(
-        MIN_LOAD,
-        season_of(case.plan.counts, s),
-        day_of(case.plan.counts, s),
-    ) != 1
-    {
+    let season = season_of(case.plan.counts, s);
+    let day = day_of(case.plan.counts, s);
+    if case.tables.by_day(MIN_LOAD, season, day) != 1 {
         return empty();
     }
     let rate = case.tables.by_plant(MIN_CAP_FAC, g);

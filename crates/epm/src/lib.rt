@@ -31,7 +31,7 @@ fn price(case: &Case, scale: u32) -> Result<u64, Refusal>
     let mut energy = [capped::zero(); ENERGY_COUNT];
     fill_energies(case, &mut energy);
     let tested = TestedCase {
-        case,
+        case: &*case,
         energy: &energy,
     };
     test_rows(&tested, u64::from(scale))?;

@@ -66,11 +66,11 @@ pub fn row_sides(year: &Year, scale: u64, p: Place) -> Sides
         CAPITAL => capital(case, scale),
         ZONE_EMISSION => zone_emission(&case.tables, energy, scale, y, i),
         SYSTEM_EMISSION => system_emission(&case.tables, energy, scale, y),
-        BATTERY_LEVEL => battery_level(&case.tables, outputs, charges, levels, y, i, s),
+        BATTERY_LEVEL => battery_level(&case.tables, outputs, charges, levels, i, s),
         CHARGE_LIMIT => charge_limit(case, charges, y, i, s),
         CHARGE_RISE => charge_ramp(case, charges, RAMP_DN, Change::Rise, y, i, s),
         CHARGE_FALL => charge_ramp(case, charges, RAMP_UP, Change::Fall, y, i, s),
-        LEVEL_LIMIT => level_limit(&case.tables, levels, scale, y, i, s),
+        LEVEL_LIMIT => level_limit(&case.tables, levels, scale, i, s),
         LINE_BALANCE => line_balance(&case.plan, y, i, j),
         NEW_LINES => new_lines(case, scale, i, j),
         // LINES_BOTH_WAYS

@@ -29,12 +29,11 @@ pub fn battery_level(
     outputs: &[u32],
     charges: &[u32],
     levels: &[u32],
-    y: usize,
     g: usize,
     s: usize,
 ) -> Sides
     requires { ((length outputs.now ≡ tables.now.counts.plants * slices_of tables.now.counts) × ((length charges.now ≡ tables.now.counts.plants * slices_of tables.now.counts) × (length levels.now ≡ tables.now.counts.plants * slices_of tables.now.counts))) × ((g < tables.now.counts.plants) × (s < slices_of tables.now.counts)) }
-    ensures { (plan : List ℕ) → YearPart plan outputs.now tables.now.counts gen_kind y → YearPart plan charges.now tables.now.counts charge_kind y → YearPart plan levels.now tables.now.counts level_kind y
+    ensures { (plan : List ℕ) (y : ℕ) → YearPart plan outputs.now tables.now.counts gen_kind y → YearPart plan charges.now tables.now.counts charge_kind y → YearPart plan levels.now tables.now.counts level_kind y
         → (N : ℕ) → result ≡ sides_of (data_of tables.now) N (plan_entry tables.now.counts plan) (row 21 y g 0 s) }
 {
     if !tables.is_battery(g) {
@@ -93,16 +92,9 @@ pub fn charge_ramp(
 }
 
 // 25 (46): battery: level ≤ energy capacity; any other plant: level ≤ 0
-pub fn level_limit(
-    tables: &Tables,
-    levels: &[u32],
-    scale: u64,
-    y: usize,
-    g: usize,
-    s: usize,
-) -> Sides
+pub fn level_limit(tables: &Tables, levels: &[u32], scale: u64, g: usize, s: usize) -> Sides
     requires { (length levels.now ≡ tables.now.counts.plants * slices_of tables.now.counts) × ((g < tables.now.counts.plants) × (s < slices_of tables.now.counts)) }
-    ensures { (plan : List ℕ) → YearPart plan levels.now tables.now.counts level_kind y → result ≡ sides_of (data_of tables.now) scale (plan_entry tables.now.counts plan) (row 25 y g 0 s) }
+    ensures { (plan : List ℕ) (y : ℕ) → YearPart plan levels.now tables.now.counts level_kind y → result ≡ sides_of (data_of tables.now) scale (plan_entry tables.now.counts plan) (row 25 y g 0 s) }
 {
     at_most(
         capped::product(1, part_at(levels, tables.counts, g, s)),

@@ -11,7 +11,7 @@ use crate::totals::{exact_total, product_if, total};
 use capped::Sum;
 use parts::years::part_at;
 use tables::lists::{Case, Entries, Tables};
-use tables::names::{ANNUITY, CAP, CAP_CREDIT, DURATION, KIND, RATE, VRE, WEIGHT, ZONE};
+use tables::names::{ANNUITY, CAP, CAP_CREDIT, DURATION, RATE, WEIGHT, ZONE};
 
 // A year's part here and in `vre_sum` is a bare slice, so its length is asked: document 01 has it as a slice part, handed on to row tests and to posting.
 // A loop here and in `vre_sum`, and no `total`: a sum of terms takes half as long again, and the rows of each slice wait for these two.
@@ -35,7 +35,7 @@ pub fn vre_sum(tables: &Tables, part: &[u32], z: u64, err: u64, s: usize) -> Sum
 {
     let mut total = capped::zero();
     for g in 0..tables.counts.plants {
-        let here = (tables.by_plant(ZONE, g) == z) & (tables.by_plant(VRE, g) == 1);
+        let here = (tables.by_plant(ZONE, g) == z) & tables.is_vre(g);
         total = capped::add_product_if(here, total, err, part_at(part, tables.counts, g, s));
     }
     total

@@ -10,11 +10,14 @@ use Rattle.figures.proofs.row_figures.Goals as goal
 pub lay_out-tables-requires : goal.lay_out-tables-requires
 lay_out-tables-requires c = sound-head _ c.requires.0
 
+pub invariant_of-tested : goal.invariant_of-tested
+invariant_of-tested c = record { tested = rw c.lay_out-tables.ensures (sound-entries _ c.requires.0); energies = c.fill_energies.ensures }
+
 pub year_of-year-requires : goal.year_of-year-requires
 year_of-year-requires c =
     let counts = laid-counts c.lay_out-tables.result c.lay_out-tables.ensures in
     let own = counted-alike row_boxes (index_of c.args.p) (counts ∙ sym c.lay_out_plan-plan.ensures.1) c.requires.1.1 in
-    (rw c.lay_out-tables.ensures (sound-entries _ c.requires.0), (c.fill_energies.ensures, year-inside c.lay_out_plan-plan.result.counted (row_inside c.lay_out_plan-plan.result.counts own).1))
+    year-inside c.lay_out_plan-plan.result.counted (row_inside c.lay_out_plan-plan.result.counts own).1
 
 pub row_sides-requires : goal.row_sides-requires
 row_sides-requires c =

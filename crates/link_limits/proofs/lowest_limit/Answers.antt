@@ -1,4 +1,3 @@
-use Prim.Native.Nat.{◌-◌}
 use Rattle.link_limits.proofs.Laws.{lowest-one, lowest-more, lowest-all}
 use borrow.Author.Rules.{rules}
 use Rattle.link_limits.proofs.lowest_limit.Goals as goal

@@ -1,5 +1,4 @@
 use mathlib.Core.Path.{refl, sym, ap, ◌∙◌}
-use Prim.Native.Nat.{◌-◌}
 use native.Mathlib.Omega.{arith}
 use Rattle.model.specs.declared.Family.{Family}
 use Rattle.tables.proofs.Steps.{none, more, turn, walked_none, walked_more, walked_all}

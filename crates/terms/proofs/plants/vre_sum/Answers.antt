@@ -10,7 +10,7 @@ pub loop-g-preserved : goal.loop-g-preserved
 loop-g-preserved c =
     let h = c.loop-g.invariant in
     let zone-is = c.by_plant.ensures.0 in
-    let vre-is = c.by_plant-in-loop-g.ensures.0 in
+    let vre-is = c.is_vre.ensures in
     let entry-is = c.part_at.ensures.0 in
     summed-more h c.loop-g-test.true (c.add_product_if-total.ensures ∙ rw (h.is, plus-on, on_both, zone-is, vre-is, entry-is))
 
