@@ -88,13 +88,7 @@ both-plus s n = go s (capped n)
 pub both-cap : (m n : ℕ) → both (cap m) (cap n) ≡ cap (m + n)
 both-cap m n = both-plus (cap m) n ∙ plus-cap m n
 
--- Products. The first three are what the code of `product` finds of two factors with half the bits.
-
-pub first-large : (a b : ℕ) → half < a → false ≡ (leb a half && leb b half)
-first-large a b h = rw (lt-leb a half h)
-
-pub first_small : (a b : ℕ) {f : Bool} → a ≤ half → f ≡ leb b half → f ≡ (leb a half && leb b half)
-first_small a b h e = e ∙ rw (le-leb a half h)
+-- Products. The first is what the code of `product` finds of two factors with half the bits.
 
 pub small-lengths : (a b : ℕ) {f : Bool} → f ≡ (leb a half && leb b half) → f ≡ true → bit_length a + bit_length b ≤ straight
 small-lengths a b e t = go (leb a half) (leb b half) refl refl (sym e ∙ t)

@@ -63,20 +63,14 @@ pub fn join(s: Sum, t: Sum) -> Sum
 fn both_small(a: u64, b: u64) -> bool
     ensures { result ≡ (leb a half && leb b half) }
 {
-    if a > HALF {
-        return false;
-    }
-    b <= HALF
+    a <= HALF && b <= HALF
 }
 
 // Whether the lengths of two factors in bits add up to 62 or less. Most factors are small, and of these no length is asked for.
 fn lengths_fit(a: u64, b: u64) -> bool
     ensures { result ≡ leb (bit_length a + bit_length b) straight }
 {
-    if both_small(a, b) {
-        return true;
-    }
-    lengths::together(a, b) <= STRAIGHT
+    both_small(a, b) || lengths::together(a, b) <= STRAIGHT
 }
 
 // Every product is made here, and none needs a division: one whose factors' lengths say that it is at most 2^62 - 1 is taken straight.
@@ -140,22 +134,12 @@ pub fn add_product3(s: Sum, a: u64, b: u64, c: u64) -> Sum
     join(s, scale(product(a, b), c))
 }
 
-// A product added where a test holds: a loop with this call has one way through.
+// A product added where a test holds. Whether it is added is no step that a closure would choose better, and a loop with this call has one way through.
 pub fn add_product_if(on: bool, s: Sum, a: u64, b: u64) -> Sum
     ensures { result ≡ plus_if on s (a * b) }
 {
     if on {
         return add_product(s, a, b);
-    }
-    s
-}
-
-// The same of a product of three.
-pub fn add_product3_if(on: bool, s: Sum, a: u64, b: u64, c: u64) -> Sum
-    ensures { result ≡ plus_if on s (a * b * c) }
-{
-    if on {
-        return add_product3(s, a, b, c);
     }
     s
 }

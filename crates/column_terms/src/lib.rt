@@ -7,7 +7,7 @@ pub mod readers;
 
 use capped::Sum;
 
-// A column's positive and negative terms m·a, summed apart.
+// Terms m·a of a column, or m·k of the rows: those above zero and those below, summed apart.
 #[derive(Clone, Copy)]
 pub struct Pair {
     pub up: Sum,

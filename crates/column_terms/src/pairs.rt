@@ -63,8 +63,8 @@ impl Pair {
     }
 
     // The term of row y, i, j, s of family k, in which the column has the coefficient a. Inlined at each use, with `Multipliers::at`, so that the family is
-    // a constant there: without the hints the walk over the columns took half as long again. Family and indices are no Place: a column would no longer
-    // read as one line for each of its rows.
+    // a constant there: without the hints the walk over the columns took half as long again.
+    // Family and indices are no `Place`, here and in the three methods below: written out as one, each row of a column would take eleven lines for its one.
     #[inline(always)]
     pub fn add_row(
         self,
@@ -100,7 +100,8 @@ impl Pair {
         self.take(a, row_multiplier(multipliers, k, y, i, j, s))
     }
 
-    // The same where a test holds; where it does not, there need not be such a row.
+    // The same where a test holds; where it does not, there need not be such a row. The test is a flag in the row's line, as the document has its condition:
+    // a closure would choose no step better, and an `if` around the line would break the chain.
     #[inline(always)]
     #[tactic(auto, unfolding(crate::specs::Pairs::added_if))]
     pub fn add_row_if(

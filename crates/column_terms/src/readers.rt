@@ -13,6 +13,7 @@ use tables::lists::{Entries, Tables, TestedTables};
 use tables::names::{ANNUITY, AVAILABILITY, DURATION, FUEL, LOSS, MIN_LOAD, YEAR, ZONE};
 use terms::plants::{season_hours, year_weight};
 
+// A plant's zone and its fuel are two readers: each result is below a count of its own, and one for both would ask for the table and the count.
 pub fn zone_of(tested: &TestedTables, g: usize) -> usize
     requires { g < tested.now.tables.now.counts.plants }
     ensures { (result ≡ zone (data_of tested.now.tables.now) g) × (result < tested.now.tables.now.counts.zones) }
@@ -27,7 +28,7 @@ pub fn fuel_of(tested: &TestedTables, g: usize) -> usize
     tested.tables.by_plant(FUEL, g) as usize
 }
 
-// t > 0
+// t > 0. `Counted` is asked: the reason stands beside it (tables/specs/Layout.antt).
 pub fn after_first_hour(c: Counts, s: usize) -> bool
     requires { Counted c }
     ensures { result ≡ ltb 0 (s % c.hours) }

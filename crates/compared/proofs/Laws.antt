@@ -2,7 +2,7 @@
 --
 -- A law's name is FACT-FUNCTION where it gives the function's answer from the fact, and FUNCTION-ANSWER where it gives the fact from the
 -- answer. No law rests on what number `limit` is. Assumes nothing.
-use mathlib.Core.Path.{◌≡◌, refl, sym, ◌∙◌}
+use mathlib.Core.Path.{◌≡◌, refl, sym, ap, ◌∙◌}
 use mathlib.Core.Bool.{true, false, cond, ◌&&◌}
 use mathlib.Core.Logic.{◌⊎◌, inl, inr, ⊎_elim}
 use Prim.Native.Nat.{ℕ, ◌+◌, ◌-◌, ◌<◌, ◌≤◌, zero-le}
@@ -15,6 +15,7 @@ use Rattle.std.specs.declared.cmp.Ordering.{Ordering}
 use Rattle.std.specs.declared.cmp.Ordering.TheVariants.{Less, Equal, Greater}
 use Rattle.std.specs.Ordering.{nat_cmp}
 use Rattle.std.specs.Cmp.{nat_cmp_is}
+use Rattle.std.specs.Option.{SomeIff, ok_or}
 use Rattle.compared.specs.declared.NoBalance.TheVariants.{BelowZero, Unsure}
 use Rattle.capped.specs.Cap.{Sum, limit, cap}
 use Rattle.capped.proofs.Laws.{Capped, cap-high, cap-low, capped, high, le-or-lt, low}
@@ -126,16 +127,13 @@ order-greater m n e = (rw e at (order-orders m n)).0
 pub order-unknown : (m n : ℕ) → order (cap m) (cap n) ≡ None → (limit < m) × (limit < n)
 order-unknown m n e = rw e at (order-orders m n)
 
--- The balance a + b - c. The first four are of exact sums, and what the code of `subtract` finds.
+-- The balance a + b - c. The first three are of exact sums; what the code of `subtract` finds are `unsure_subtract` and `sure_subtract`.
 
 module _ (a b c : ℕ) where
-  pub high-subtract-a : limit < a → Err Unsure ≡ net_of (Some a) (Some b) (Some c)
+  pub unsure_subtract : (limit < a) ⊎ ((a ≤ limit) × (limit < b)) → Err Unsure ≡ net_of (Some a) (Some b) (Some c)
   unfolding net_of
-  high-subtract-a h = rw (lt-leb a limit h)
-
-  pub high-subtract-b : a ≤ limit → limit < b → Err Unsure ≡ net_of (Some a) (Some b) (Some c)
-  unfolding net_of
-  high-subtract-b h k = rw (le-leb a limit h, lt-leb b limit k)
+  unsure_subtract (inl h) = rw (lt-leb a limit h)
+  unsure_subtract (inr h) = rw (le-leb a limit h.0, lt-leb b limit h.1)
 
   pub lt-subtract : a ≤ limit → b ≤ limit → a + b < c → Err BelowZero ≡ net_of (Some a) (Some b) (Some c)
   unfolding net_of
@@ -144,6 +142,10 @@ module _ (a b c : ℕ) where
   pub le-subtract : a ≤ limit → b ≤ limit → c ≤ a + b → Ok (a + b - c) ≡ net_of (Some a) (Some b) (Some c)
   unfolding net_of
   le-subtract h k p = rw (le-leb a limit h, le-leb b limit k, le-ltb (a + b) c p)
+
+  pub sure_subtract : (left : Option ℕ) → a ≤ limit → b ≤ limit → SomeIff left (c ≤ a + b) (a + b - c) → ok_or left BelowZero ≡ net_of (Some a) (Some b) (Some c)
+  sure_subtract (Some v) h k s = ap (λ (n : ℕ). Ok n) s.1 ∙ le-subtract h k s.0
+  sure_subtract None h k s = ⊎_elim (λ (p : c ≤ a + b). absurd (s p)) (λ (p : a + b < c). lt-subtract h k p) (le-or-lt c (a + b))
 
   pub lt-net : a ≤ limit → b ≤ limit → c ≤ limit → a + b < c → net_of (cap a) (cap b) (cap c) ≡ Err BelowZero
   lt-net h k l p = rw (cap-low a h, cap-low b k, cap-low c l) (sym (lt-subtract h k p))

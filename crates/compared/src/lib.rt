@@ -31,21 +31,16 @@ pub fn compare(s: Sum, t: Sum) -> Option<Ordering>
     }
 }
 
+#[tactic(auto, unfolding(capped::specs::Cap::limit), using(crate::proofs::Laws::unsure_subtract, crate::proofs::Laws::sure_subtract))]
 fn subtract(a: u64, b: u64, c: u64) -> Balance
     ensures { result ≡ net_of (Some a) (Some b) (Some c) }
 {
-    // As in `add`: with both at most the limit, `a + b` cannot wrap.
-    if a > LIMIT {
-        return Err(NoBalance::Unsure);
-    }
-    if b > LIMIT {
+    // With both at most the limit, `a + b` cannot wrap. No function of `capped` makes an exact sum above the limit, but a caller can.
+    if a > LIMIT || b > LIMIT {
         return Err(NoBalance::Unsure);
     }
     let total = a + b;
-    if total < c {
-        return Err(NoBalance::BelowZero);
-    }
-    Ok(total - c)
+    total.checked_sub(c).ok_or(NoBalance::BelowZero)
 }
 
 // a + b - c, where all three are exact. The sum of two exact sums is held even where it is above the limit.

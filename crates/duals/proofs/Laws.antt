@@ -1,25 +1,23 @@
 -- The parts of a signed number, the starts of the families, a row's place among the multipliers, and the tests of refusals 9 and 10. Assumes nothing.
-use Rattle.std.specs.Prelude.{Result, Err}
+use Rattle.std.specs.Prelude.{Result, Ok, Err}
 use Rattle.model.specs.Calls.{outcome}
 use mathlib.Core.Path.{◌≡◌, refl, sym, ap, ◌∙◌, fun_ext}
 use mathlib.Core.Bool.{Bool, true, false, ◌&&◌}
 use mathlib.Core.List.{List}
-use Prim.Native.Nat.{ℕ, suc, ◌+◌, ◌^◌, ◌≤◌, ◌<◌}
+use Prim.Native.Nat.{ℕ, ◌+◌, ◌-◌, ◌≤◌, ◌<◌}
 use native.Mathlib.Nat.{mul-le-mul}
 use native.Mathlib.Omega.{arith}
-use borrow.Author.Tests.{ltb-true, le-ltb, eq-eqb, ne_eqb}
-use lib.Dec.{T, leb}
-use lib.IntN.{ℤ, pos, negsuc, ◌-ℤ◌, nat_abs}
+use borrow.Author.Tests.{ltb-true, eq-eqb, ne_eqb}
+use lib.Dec.{leb}
+use lib.IntN.{ℤ, pos, negsuc, nat_abs}
 use lib.ListN.{length, get_or}
-use lib.Signed.{lt_z, non_neg, mag}
-use mir.Syntax.{w64}
-use mir.Val.{SFits, to_z, of_z}
-use mir.Facts.{to_z-of_z}
+use lib.Signed.{lt_z}
 use Rattle.sums.specs.declared.Box.{Box}
 use Rattle.sums.specs.Sum.{on}
-use Rattle.sums.specs.Span.{Fault, or_else, upto}
+use Rattle.sums.specs.Span.{Fault, fine, fault, or_else, upto}
 use Rattle.sums.specs.Index.{index, box, box_of, volume, inside, start, count, number, Member}
 use Rattle.sums.proofs.Sums.{sum-one-more, sum-prefix}
+use Rattle.sums.proofs.Spans.{upto-stop}
 use Rattle.sums.proofs.Numbering.{number_bound}
 use Rattle.sums.proofs.Flat.{box-first}
 use Rattle.model.specs.declared.Counts.{Counts}
@@ -33,39 +31,22 @@ use Rattle.model.specs.Families.{family_of, row_boxes, shape_of, family_count}
 use Rattle.model.specs.Tests.{unless, part⁺, part⁻, most_multiplier, multiplier, multiplier_count_fault, multiplier_fault, multipliers_fault}
 use Rattle.tables.proofs.Laws.{get_or-map-in, small-set}
 use Rattle.tables.proofs.Members.{family-box, row_inside}
+use Rattle.tables.proofs.Walk.{Reached, begun, turned, ended}
 use Rattle.duals.specs.declared.Multiplier as part
 use Rattle.duals.specs.Multipliers.{multiplier_of, Shaped, RowsAt}
 
 -- The parts of a signed number
 
-minus_one : (n : ℕ) → negsuc 0 -ℤ negsuc n ≡ pos n
-minus_one n = rw (le-ltb (suc n) 1 (omega arith)) (ap pos (omega arith))
-
--- y, which is z, is below zero: −1 − y fits and is one less than z's size
-pub record Downs (y z : ℤ) : Type 0 where
-  pub fits : SFits w64 (negsuc 0 -ℤ y)
-  pub back : to_z w64 (of_z w64 (negsuc 0 -ℤ y)) ≡ pos (mag z)
-  pub small : mag z < 2 ^ 63
-  pub is : record { up = 0; down = mag z + 1 } ≡ multiplier_of z
-
-pub downs : {y z : ℤ} → y ≡ z → SFits w64 z → lt_z y (pos 0) ≡ true → Downs y z
+-- below zero its size is the part below, else the part above
+pub below_zero : (m : ℤ) {n : ℕ} → n ≡ nat_abs m → lt_z m (pos 0) ≡ true → record { up = 0; down = n } ≡ multiplier_of m
 unfolding multiplier_of
-downs {y = pos n} e f q = let h : n < 0 = ltb-true _ _ q in absurd (omega arith)
-downs {y = negsuc n} e f q =
-    let s : n < 2 ^ 63 = rw (← e) at f.sfits in
-    let g : SFits w64 (negsuc 0 -ℤ negsuc n) = rw (minus_one n) (record { sfits = s }) in
-    record { fits = g; back = to_z-of_z g ∙ minus_one n ∙ rw (← e); small = f.sfits; is = rw (← e) (ap (λ (n : ℕ). record { up = 0; down = n }) (omega arith)) }
+below_zero (pos k) e q = let h : k < 0 = ltb-true _ _ q in absurd (omega arith)
+below_zero (negsuc k) e q = rw e
 
--- y, which is z, is not below zero
-pub record Ups (y z : ℤ) : Type 0 where
-  pub sign : T (non_neg y)
-  pub small : nat_abs y < 2 ^ 64
-  pub is : record { up = nat_abs y; down = 0 } ≡ multiplier_of z
-
-pub ups : {y z : ℤ} → y ≡ z → SFits w64 z → lt_z y (pos 0) ≡ false → Ups y z
+pub not_below_zero : (m : ℤ) {n : ℕ} → n ≡ nat_abs m → lt_z m (pos 0) ≡ false → record { up = n; down = 0 } ≡ multiplier_of m
 unfolding multiplier_of
-ups {y = pos n} e f q = let s : n < 2 ^ 63 = rw (← e) at f.sfits in record { sign = tt; small = omega arith; is = rw (← e) refl }
-ups {y = negsuc n} e f q = let z : ◌≡◌ {A = ℕ} 0 1 = cc in absurd (omega arith)
+not_below_zero (pos k) e q = rw e
+not_below_zero (negsuc k) e q = let z : ◌≡◌ {A = ℕ} 0 1 = cc in absurd (omega arith)
 
 -- The families of rows
 
@@ -96,18 +77,6 @@ module _ {shape : Shape} (h : Shaped shape) where
         ap (λ (b : Box). volume b) (family-box shape.counts l),
         mul-le-mul (mul-le-mul (mul-le-mul s.few_years s.few_firsts) s.few_seconds) s.few_slices,
       )
-
-  -- one more start as the loop makes it
-  pub start-next : {k next : ℕ} → k < family_count → next ≡ start (row_boxes shape.counts) k
-      → next + get_or shape.sizes k 0 ≡ start (row_boxes shape.counts) (k + 1)
-  start-next {k} l e = omega (arith, e, size-at l, sum-one-more k (λ i. volume (box_of (row_boxes shape.counts) i)))
-
-  -- the rows of a family are rows
-  pub family-row : {k i n : ℕ} → n ≡ count (row_boxes shape.counts) → k < family_count → i < get_or shape.sizes k 0 → start (row_boxes shape.counts) k + i < n
-  family-row {k} e l h =
-      let boxes = row_boxes shape.counts in
-      let size : ℕ → ℕ = λ i. volume (box_of boxes i) in
-      omega (arith, e, size-at l, sum-one-more k size, sum-prefix (k + 1) (length boxes) size (rw (row-kinds shape.counts) (omega arith)))
 
 -- A row's place among the multipliers
 
@@ -145,10 +114,44 @@ module _ (ms : List ℤ) where
   unfolding row_fault multiplier_of
   tested equal n e q = rw (q, e)
 
-  -- a family's rows as the loop has them
-  pub family-faults : {shape : Shape} {k : ℕ} {f : Family} → Shaped shape → k < family_count → f ≡ family_of k
-      → family_fault shape.counts k ≡ upto (get_or shape.sizes k 0) (λ v. row_fault f.equal (start (row_boxes shape.counts) k + v))
-  family-faults h l e = rw (size-at h l, e)
+  -- by the family that the loop has read
+  pub family-faults : (c : Counts) (k : ℕ) {f : Family} → f ≡ family_of k
+      → family_fault c k ≡ upto (volume (box_of (row_boxes c) k)) (λ v. row_fault f.equal (start (row_boxes c) k + v))
+  family-faults c k e = rw e
+
+  -- the loop over the rows of a family, `size` of them from the row `first` on, at one of them; a record, so that a law finds the rows in it
+  pub record Rows (equal : Bool) (first size row : ℕ) (answer : Result (Unit {0}) Refusal) : Type 0 where
+    pub at : Reached (λ v. row_fault equal (first + v)) (λ v. first + v) (row - first) size row answer
+
+  module _ {equal : Bool} {first size row : ℕ} {answer : Result (Unit {0}) Refusal} where
+    pub rows-begun : row ≡ first → answer ≡ Ok tt → Rows equal first size row answer
+    rows-begun h g = let z : row - first ≡ 0 = omega (arith, h) in record { at = rw z (begun g (omega (arith, h))) }
+
+    module _ (r : Rows equal first size row answer) where
+      pub rows-turned : row < first + size → row_fault equal row ≡ fine → Rows equal first size (row + 1) answer
+      rows-turned l e =
+          let here = r.at.here in
+          let next : row + 1 - first ≡ row - first + 1 = omega (arith, here) in
+          record { at = rw next (turned r.at (omega (arith, here)) r.at.going (rw (← here) e) (omega (arith, here))) }
+
+      pub rows-ended : first + size ≤ row → upto size (λ v. row_fault equal (first + v)) ≡ fine
+      rows-ended l = (ended r.at (omega (arith, r.at.here))).0
+
+      pub rows-stopped : {x : Refusal} → row < first + size → row_fault equal row ≡ fault x → upto size (λ v. row_fault equal (first + v)) ≡ fault x
+      rows-stopped l e = upto-stop _ (row - first) _ (omega (arith, r.at.here)) r.at.so (rw (← r.at.here) e)
+
+-- A family's rows are those from its start to the next one, and all of them are rows
+module _ {c : Counts} {ms : List ℤ} {rows_at : List ℕ} (d : RowsAt ms rows_at c) {k : ℕ} (l : k < family_count) where
+  pub family-start : get_or rows_at k 0 ≡ start (row_boxes c) k
+  family-start = d.starts k (omega arith)
+
+  pub family-end : get_or rows_at (k + 1) 0 ≡ start (row_boxes c) k + volume (box_of (row_boxes c) k)
+  family-end = omega (arith, d.starts (k + 1) (omega arith), sum-one-more k (λ i. volume (box_of (row_boxes c) i)))
+
+  pub family-rows : get_or rows_at (k + 1) 0 ≤ length ms
+  family-rows =
+      let boxes = row_boxes c in
+      omega (arith, d.whole, d.starts (k + 1) (omega arith), sum-prefix (k + 1) (length boxes) (λ i. volume (box_of boxes i)) (rw (row-kinds c) (omega arith)))
 
 -- Refusal 9, and then 10
 

@@ -27,11 +27,13 @@ use tables::sets::{
     BY_YEAR_PLANT_SLICE, BY_YEAR_ZONE, BY_YEAR_ZONE_FUEL, BY_YEAR_ZONE_SLICE, SINGLE, family_at,
     inside_of, shape_of,
 };
+use tables::starts::starts_of;
 
 // The largest size of a multiplier, 2^40.
 const MOST_MULTIPLIER: u64 = 0x100_0000_0000;
 
-// The size of a multiplier above zero, and its size below zero; one of the two is 0.
+// The size of a multiplier above zero, and its size below zero; one of the two is 0. It is no `Pair` (column_terms), though its fields have the same names:
+// these are the parts of one signed number, and those are two capped sums.
 #[derive(Clone, Copy)]
 pub struct Multiplier {
     pub up: u64,
@@ -50,20 +52,15 @@ impl Multiplier {
     }
 }
 
-// -1 - m is never out of range, and 0 - m can be.
+#[tactic(auto, using(crate::proofs::Laws::below_zero, crate::proofs::Laws::not_below_zero))]
 pub fn parts_of(m: i64) -> Multiplier
     ensures { result ≡ multiplier_of m }
 {
+    let size = m.unsigned_abs();
     if m < 0 {
-        return Multiplier {
-            up: 0,
-            down: (-1 - m) as u64 + 1,
-        };
+        return Multiplier { up: 0, down: size };
     }
-    Multiplier {
-        up: m as u64,
-        down: 0,
-    }
+    Multiplier { up: size, down: 0 }
 }
 
 // The multiplier of a row's number.
@@ -84,13 +81,7 @@ pub fn row_starts(shape: Shape) -> RowStarts
     requires { Shaped shape }
     ensures { (length result ≡ family_count + 1) × ((k : ℕ) → k ≤ family_count → get_or result k 0 ≡ start (row_boxes shape.counts) k) }
 {
-    let mut rows_at = [0; ROW_STARTS];
-    let mut next = 0;
-    for k in 0..FAMILY_COUNT {
-        next = next + shape.sizes[k];
-        rows_at[k + 1] = next;
-    }
-    rows_at
+    starts_of(FAMILY_COUNT, 0, |k| shape.sizes[k])
 }
 
 // The code of a family's index set once more, by match: where the family is a constant, inlining sees through it to the code, and so to the index set.
@@ -157,7 +148,7 @@ impl Multipliers<'_> {
     }
 }
 
-// A multiplier for every row, with the starts of the families.
+// A multiplier for every row, with the starts of the families. `Counted` is asked: the reason stands beside it (tables/specs/Layout.antt).
 pub fn lay_out_multipliers<'a>(list: &'a [i64], counts: Counts) -> Multipliers<'a>
     requires { Counted counts × (length list.now ≡ count (row_boxes counts)) }
     ensures { (result.list.now ≡ list.now) × (result.counts ≡ counts) }
@@ -177,7 +168,8 @@ pub struct Pricing<'a> {
     pub ghost same_counts: { multipliers.counts ≡ tested.tables.now.counts },
 }
 
-// The largest size below zero: 2^40 in an equality, 0 elsewhere.
+// The largest size below zero: 2^40 in an equality, 0 elsewhere. Whether a family's rows are equalities is a flag of document 01's table of families, here and
+// in `in_range`: what it changes is a number to compare with, and no step to choose.
 fn most_below(equal: bool) -> u64
     ensures { result ≡ on equal most_multiplier }
 {
@@ -190,30 +182,23 @@ fn most_below(equal: bool) -> u64
 fn in_range(m: Multiplier, equal: bool) -> bool
     ensures { result ≡ (leb m.up most_multiplier && leb m.down (on equal most_multiplier)) }
 {
-    if m.up > MOST_MULTIPLIER {
-        return false;
-    }
-    m.down <= most_below(equal)
+    m.up <= MOST_MULTIPLIER && m.down <= most_below(equal)
 }
 
-// Refusal 10: every multiplier in the order of the rows, left at the first that is out of range.
-// A family's rows follow one another, `sizes[k]` of them.
-fn test_ranges(ms: &[i64], shape: Shape) -> Result<(), Refusal>
-    requires { Shaped shape × (length ms.now ≡ count (row_boxes shape.counts)) }
-    ensures { (D : Data) → D.counts ≡ shape.counts → result ≡ outcome (multipliers_fault D ms.now) }
+// Refusal 10: every multiplier in the order of the rows, left by label at the first that is out of range, as document 01's walk over the rows is.
+fn test_ranges(multipliers: &Multipliers) -> Result<(), Refusal>
+    ensures { (D : Data) → D.counts ≡ multipliers.now.counts → result ≡ outcome (multipliers_fault D multipliers.now.list.now) }
 {
-    let mut row = 0;
     let mut answer = Ok(());
     'walk: for k in 0..FAMILY_COUNT {
         let f = family_at(k);
         let equal = f.equal;
-        for i in 0..shape.sizes[k] {
-            let m = multiplier_in(ms, row);
+        for row in multipliers.starts[k]..multipliers.starts[k + 1] {
+            let m = multiplier_in(multipliers.list, row);
             if !in_range(m, equal) {
                 answer = Err(Refusal::Multiplier(row));
                 break 'walk;
             }
-            row += 1;
         }
     }
     answer
@@ -224,10 +209,15 @@ pub fn test_multipliers(ms: &[i64], shape: Shape) -> Result<(), Refusal>
     requires { Shaped shape }
     ensures { (D : Data) → D.counts ≡ shape.counts → result ≡ outcome (or_else (multiplier_count_fault D ms.now) (multipliers_fault D ms.now)) }
 {
-    let rows_at = row_starts(shape);
-    let whole = rows_at[FAMILY_COUNT];
+    let starts = row_starts(shape);
+    let whole = starts[FAMILY_COUNT];
     if ms.len() != whole {
         return Err(Refusal::MultiplierCount(whole));
     }
-    test_ranges(ms, shape)
+    let multipliers = Multipliers {
+        list: ms,
+        counts: shape.counts,
+        starts,
+    };
+    test_ranges(&multipliers)
 }

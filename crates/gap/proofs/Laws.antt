@@ -31,13 +31,16 @@ use Rattle.constants.specs.Constants.{constant_of, has_constant}
 use Rattle.row_constants.proofs.Laws.{without}
 use Rattle.duals.specs.Multipliers.{multiplier_of}
 use Rattle.duals.proofs.Laws.{row-kinds}
-use Rattle.gap.specs.declared.BySign.{BySign}
+use Rattle.column_terms.specs.declared.Pair.{Pair}
 use Rattle.gap.specs.Signs.{capped, more, with_row, term⁺, term⁻, with_term, terms_of, walked_box, settled}
 
 -- A row's term
 
+pub sided : (t : Pair) {u v d w : ℕ} → u ≡ v → d ≡ w → ◌≡◌ {A = Pair} (more t u d) (more t v w)
+sided t p q = rw (p, q)
+
 -- as the code has its multiplier and its constant
-pub term_is : (D : Data) (ms : List ℤ) {c : Counts} (t : BySign) (r : Index) → D.counts ≡ c
+pub term_is : (D : Data) (ms : List ℤ) {c : Counts} (t : Pair) (r : Index) → D.counts ≡ c
     → with_row t (multiplier_of (get_or ms (number (row_boxes c) r) (pos 0))) (constant_of D r) ≡ with_term D ms t r
 unfolding with_row with_term term⁺ term⁻ multiplier_of multiplier constant_of constant⁺ constant⁻
 term_is D ms t r e = rw (← e)
@@ -98,36 +101,36 @@ module _ (c : Counts) (k : ℕ) {b : Box} (e : b ≡ walked_box c k) where
 
 -- The loops: after k of n turns whose turn k adds f k above zero and g k below
 
-pub record Adding (f g : ℕ → ℕ) (n : ℕ) (from : BySign) (k : ℕ) (t : BySign) : Type 0 where
+pub record Adding (f g : ℕ → ℕ) (n : ℕ) (from : Pair) (k : ℕ) (t : Pair) : Type 0 where
   pub within : k ≤ n
   pub is : (u d : ℕ) → from ≡ capped u d → t ≡ capped (u + sum k f) (d + sum k g)
 
 same : {u v d w : ℕ} → u ≡ v → d ≡ w → capped u d ≡ capped v w
 same p q = rw (p, q)
 
-pub begin : {f g : ℕ → ℕ} {n : ℕ} {t : BySign} → Adding f g n t 0 t
+pub begin : {f g : ℕ → ℕ} {n : ℕ} {t : Pair} → Adding f g n t 0 t
 unfolding sum
 begin = record { within = zero-le; is = λ u d e. e ∙ same (sym (add-zero u)) (sym (add-zero d)) }
 
-pub all : {f g : ℕ → ℕ} {n k : ℕ} {from t : BySign} → Adding f g n from k t → n ≤ k → (u d : ℕ) → from ≡ capped u d → t ≡ capped (u + sum n f) (d + sum n g)
+pub all : {f g : ℕ → ℕ} {n k : ℕ} {from t : Pair} → Adding f g n from k t → n ≤ k → (u d : ℕ) → from ≡ capped u d → t ≡ capped (u + sum n f) (d + sum n g)
 all {n = n} {k = k} h l u d e = let q : k ≡ n = le_antisymm h.within l in rw q at (h.is u d e)
 
-module _ {f g : ℕ → ℕ} {n k : ℕ} {from t : BySign} (h : Adding f g n from k t) (l : k < n) where
-  pub add : {next : BySign} → next ≡ more t (f k) (g k) → Adding f g n from (k + 1) next
+module _ {f g : ℕ → ℕ} {n k : ℕ} {from t : Pair} (h : Adding f g n from k t) (l : k < n) where
+  pub add : {next : Pair} → next ≡ more t (f k) (g k) → Adding f g n from (k + 1) next
   add q = record {
     within = omega arith;
     is = λ u d e. q ∙ rw (h.is u d e, plus-cap (u + sum k f), plus-cap (d + sum k g)) (same (omega (arith, sum-one-more k f)) (omega (arith, sum-one-more k g)));
   }
 
   -- a turn that is a loop of its own
-  pub turn : {f' g' : ℕ → ℕ} {m i : ℕ} {next : BySign} → Adding f' g' m t i next → m ≤ i → f k ≡ sum m f' → g k ≡ sum m g' → Adding f g n from (k + 1) next
+  pub turn : {f' g' : ℕ → ℕ} {m i : ℕ} {next : Pair} → Adding f' g' m t i next → m ≤ i → f k ≡ sum m f' → g k ≡ sum m g' → Adding f g n from (k + 1) next
   turn a p q r = record {
     within = omega arith;
     is = λ u d e. all a p (u + sum k f) (d + sum k g) (h.is u d e) ∙ same (omega (arith, q, sum-one-more k f)) (omega (arith, r, sum-one-more k g));
   }
 
 -- the terms of all rows
-pub all-terms : (D : Data) (ms : List ℤ) {c : Counts} {from t : BySign} {k : ℕ} → D.counts ≡ c → from ≡ capped 0 0
+pub all-terms : (D : Data) (ms : List ℤ) {c : Counts} {from t : Pair} {k : ℕ} → D.counts ≡ c → from ≡ capped 0 0
     → Adding (λ k. of_family (term⁺ D ms) (box_of (row_boxes c) k) k) (λ k. of_family (term⁻ D ms) (box_of (row_boxes c) k) k) family_count from k t → family_count ≤ k
     → t ≡ terms_of D ms
 unfolding terms_of constants⁺ constants⁻ term⁺ term⁻ row_boxes

@@ -16,18 +16,18 @@ use Rattle.model.specs.Tests.{constant⁺, constant⁻, m⁺, m⁻, constants⁺
 use Rattle.constants.specs.declared.Constant.{Constant}
 use Rattle.constants.specs.Constants.{has_constant}
 use Rattle.duals.specs.declared.Multiplier.{Multiplier}
-use Rattle.gap.specs.declared.BySign.{BySign}
+use Rattle.column_terms.specs.declared.Pair.{Pair}
 
 -- two exact sums
-abbrev pub capped : ℕ → ℕ → BySign
+abbrev pub capped : ℕ → ℕ → Pair
 capped u d = record { up = cap u; down = cap d }
 
 -- more terms of each sign
-abbrev pub more : BySign → ℕ → ℕ → BySign
+abbrev pub more : Pair → ℕ → ℕ → Pair
 more t u d = record { up = plus t.up u; down = plus t.down d }
 
 -- the term m·k of a multiplier and a constant that adds and takes off, like terms of the constant brought together
-unfoldable pub with_row : BySign → Multiplier → Constant → BySign
+unfoldable pub with_row : Pair → Multiplier → Constant → Pair
 with_row t m k =
     more t (m.up * (k.adds - k.takes) + m.down * (k.takes - k.adds)) (m.up * (k.takes - k.adds) + m.down * (k.adds - k.takes))
 
@@ -39,11 +39,11 @@ module _ (D : Data) (ms : List ℤ) where
   unfoldable pub term⁻ : Index → ℕ
   term⁻ r = m⁺ D ms r * constant⁻ D r + m⁻ D ms r * constant⁺ D r
 
-  unfoldable pub with_term : BySign → Index → BySign
+  unfoldable pub with_term : Pair → Index → Pair
   with_term t r = more t (term⁺ r) (term⁻ r)
 
   -- the terms of all rows
-  unfoldable pub terms_of : BySign
+  unfoldable pub terms_of : Pair
   terms_of = capped (constants⁺ D ms) (constants⁻ D ms)
 
 -- a family's index set, with no members where its rows have no constant

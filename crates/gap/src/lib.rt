@@ -8,42 +8,30 @@ ghost use Rattle.sums.specs.Index.{index_of, Member};
 ghost use Rattle.model.specs.Families.{row_boxes, family_count};
 ghost use Rattle.model.specs.Tests.{gap_fault, gap};
 ghost use Rattle.model.specs.Calls.{certificate};
-ghost use Rattle.tables.specs.Layout.{Counted};
 ghost use Rattle.gap.specs.Signs.{with_row, with_term, walked_box, terms_of, settled};
 ghost use Rattle.tables.specs.Lists.{data_of};
 
 use capped::Sum;
+use column_terms::Pair;
 use compared::NoBalance;
 use constants::families::has_constant;
 use constants::{Constant, netted};
-use duals::{Multiplier, Pricing};
-use model::{Certificate, Counts, FAMILY_COUNT, Refusal};
+use duals::{Multiplier, Multipliers, Pricing};
+use model::{Certificate, FAMILY_COUNT, Refusal};
 use row_constants::constant_at;
 use sums::{Box, Place};
 use tables::sets::{box_of, family_at};
 
-// The terms m·k of rows: those above zero and those below, summed apart.
-#[derive(Clone, Copy)]
-pub struct BySign {
-    pub up: Sum,
-    pub down: Sum,
-}
-
 // A row's term m·k added on the side of its sign. The constant is one number, so its two parts are brought together first.
-fn with_row(t: BySign, m: Multiplier, k: Constant) -> BySign
+fn with_row(t: Pair, m: Multiplier, k: Constant) -> Pair
     ensures { result ≡ with_row t m k }
 {
     let n = netted(k);
-    let up = capped::add_product(t.up, m.up, n.adds);
-    let down = capped::add_product(t.down, m.up, n.takes);
-    BySign {
-        up: capped::add_product(up, m.down, n.takes),
-        down: capped::add_product(down, m.down, n.adds),
-    }
+    t.add(n.adds, m).take(n.takes, m)
 }
 
 // The term of row p added.
-fn add_term(pricing: &Pricing, p: Place, t: BySign) -> BySign
+fn add_term(pricing: &Pricing, p: Place, t: Pair) -> Pair
     requires { Member (row_boxes pricing.now.multipliers.counts) (index_of p) }
     ensures { result ≡ with_term (data_of pricing.now.tested.tables.now) pricing.now.multipliers.list.now t (index_of p) }
 {
@@ -52,12 +40,12 @@ fn add_term(pricing: &Pricing, p: Place, t: BySign) -> BySign
 }
 
 // The index set of a family; of one whose rows have no constant nothing is walked.
-fn walked_box(c: Counts, k: usize) -> Box
-    requires { Counted c × (k < family_count) }
-    ensures { result ≡ walked_box c k }
+fn walked_box(multipliers: &Multipliers, k: usize) -> Box
+    requires { k < family_count }
+    ensures { result ≡ walked_box multipliers.now.counts k }
 {
     if has_constant(k) {
-        return box_of(c, family_at(k).set);
+        return box_of(multipliers.counts, family_at(k).set);
     }
     Box {
         years: 0,
@@ -67,16 +55,14 @@ fn walked_box(c: Counts, k: usize) -> Box
     }
 }
 
-// The terms m·k of all rows.
-pub fn constant_terms(pricing: &Pricing) -> BySign
+// The terms m·k of all rows: those above zero and those below, summed apart. The nest of loops is the index set of a family written out: `Pair::total` knows
+// terms of coefficients only, and the walk over the columns is left by label, so a closure over the members of a set would serve this walk alone.
+pub fn constant_terms(pricing: &Pricing) -> Pair
     ensures { result ≡ terms_of (data_of pricing.now.tested.tables.now) pricing.now.multipliers.list.now }
 {
-    let mut t = BySign {
-        up: capped::zero(),
-        down: capped::zero(),
-    };
+    let mut t = Pair::none();
     for k in 0..FAMILY_COUNT {
-        let b = walked_box(pricing.multipliers.counts, k);
+        let b = walked_box(&pricing.multipliers, k);
         for y in 0..b.years {
             for i in 0..b.firsts {
                 for j in 0..b.seconds {

@@ -1,9 +1,10 @@
 // The places at which the tables of a list start.
 ghost use Rattle.std.specs.Prelude.{◌≡◌, ℕ, ◌+◌, ◌≤◌, ◌<◌, length, get_or};
+ghost use Rattle.sums.specs.Sum.{sum};
 ghost use Rattle.sums.specs.Index.{box_of};
 ghost use Rattle.model.specs.Counts.{sets};
 ghost use Rattle.model.specs.Columns.{column_sets, column_kind_count};
-ghost use Rattle.model.specs.Data.{table_count};
+ghost use Rattle.model.specs.Data.{table_count, most32};
 ghost use Rattle.tables.specs.Layout.{Counted, Small, table_sets, start_from};
 
 use crate::sets::{
@@ -125,20 +126,34 @@ pub fn column_box(c: Counts, k: usize) -> Box
     box_of(c, column_set(k))
 }
 
+// Where each of n parts of a list starts, and after the last of them where the list ends: the parts follow one another from the first place on.
+pub fn starts_of<const N: usize, F: Fn(usize) -> usize>(
+    n: usize,
+    from: usize,
+    size: F,
+) -> [usize; N]
+    requires room { (n < N) × ((n ≤ most32) × (from ≤ most32)) }
+    requires callable { (k : ℕ) → k < n → F.pre size k }
+    requires small { (k r : ℕ) → k < n → F.post size k r → r ≤ most32 }
+    ensures length { length result ≡ N }
+    ensures value { (f : ℕ → ℕ) → ((k r : ℕ) → k < n → F.post size k r → r ≡ f k) → (k : ℕ) → k ≤ n → get_or result k 0 ≡ from + sum k f }
+{
+    let mut starts = [0; N];
+    let mut next = from;
+    starts[0] = next;
+    for k in 0..n {
+        next += size(k);
+        starts[k + 1] = next;
+    }
+    starts
+}
+
 // Where each of the kinds starts that a list of index sets names, and after the last of them where the list ends.
 fn starts_from(c: Counts, kinds: &[usize], from: usize) -> Starts
     requires { Counted c × ((length kinds.now ≤ table_count) × (from ≤ 7)) }
     ensures { (length result ≡ table_count + 1) × ((k : ℕ) → k ≤ length kinds.now → get_or result k 0 ≡ start_from c kinds.now from k) }
 {
-    let mut starts = [0; STARTS];
-    let mut next = from;
-    starts[0] = next;
-    for (k, &set) in kinds.iter().enumerate() {
-        let b = box_of(c, set);
-        next += members_of(b);
-        starts[k + 1] = next;
-    }
-    starts
+    starts_of(kinds.len(), from, |k| members_of(box_of(c, kinds[k])))
 }
 
 // The starts of the data list's tables; the counts stand before them. Here and in `column_starts` one function serves both, `starts_from`; what is left is

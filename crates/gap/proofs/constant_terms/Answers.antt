@@ -1,6 +1,7 @@
 use mathlib.Core.Path.{refl, sym, ◌∙◌}
 use Prim.Native.Nat.{◌-◌}
 use Rattle.model.specs.Data.{read}
+use Rattle.column_terms.specs.Pairs.{no_terms}
 use Rattle.gap.specs.Signs.{term⁺, term⁻, with_term}
 use Rattle.gap.proofs.Laws.{begin, add, turn, walked-sum, walked-member, no-term⁺, no-term⁻, all-terms}
 use Rattle.gap.proofs.constant_terms.Goals as goal
@@ -48,5 +49,6 @@ loop-k-preserved c =
     (walked-sum _ _ b (term⁺ D ms) (λ h. no-term⁺ D ms l h)) (walked-sum _ _ b (term⁻ D ms) (λ h. no-term⁻ D ms l h))
 
 pub returns : goal.returns
+unfolding no_terms
 returns c =
-    all-terms _ _ (c.args.pricing.now.tested.tables.now.laid_out.counts ∙ sym c.args.pricing.now.same_counts) (rw (c.zero.ensures, c.zero-2.ensures)) c.loop-k.invariant c.loop-k-test.false
+    all-terms _ _ (c.args.pricing.now.tested.tables.now.laid_out.counts ∙ sym c.args.pricing.now.same_counts) c.none-t.ensures c.loop-k.invariant c.loop-k-test.false

@@ -7,7 +7,7 @@ pub returns-then-has_constant : goal.returns-then-has_constant
 unfolding walked_box
 returns-then-has_constant c =
     rw (← c.has_constant.ensures, c.if-has_constant.true)
-    (c.box_of.ensures.0 ∙ rw c.family_at.ensures (sym (family-box _ c.requires.1)))
+    (c.box_of.ensures.0 ∙ rw c.family_at.ensures (sym (family-box _ c.requires)))
 
 pub returns : goal.returns
 unfolding walked_box
