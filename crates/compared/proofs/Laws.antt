@@ -143,7 +143,8 @@ module _ (a b c : ℕ) where
   unfolding net_of
   le-subtract h k p = rw (le-leb a limit h, le-leb b limit k, le-ltb (a + b) c p)
 
-  pub sure_subtract : (left : Option ℕ) → a ≤ limit → b ≤ limit → SomeIff left (c ≤ a + b) (a + b - c) → ok_or left BelowZero ≡ net_of (Some a) (Some b) (Some c)
+  pub sure_subtract : (left : Option ℕ) → a ≤ limit → b ≤ limit → SomeIff left (c ≤ a + b) (a + b - c)
+      → ok_or left BelowZero ≡ net_of (Some a) (Some b) (Some c)
   sure_subtract (Some v) h k s = ap (λ (n : ℕ). Ok n) s.1 ∙ le-subtract h k s.0
   sure_subtract None h k s = ⊎_elim (λ (p : c ≤ a + b). absurd (s p)) (λ (p : a + b < c). lt-subtract h k p) (le-or-lt c (a + b))
 

@@ -130,4 +130,4 @@ unfolding added
 added-fitting size l p h = rw (take_all (size - length l) p (omega arith))
 
 -- the laws of a name that is asked for
-pub ruleset names_by_number = added-none, list-found, list-past
+pub ruleset names_by_number = (added-none, list-found, list-past)

@@ -45,6 +45,7 @@ impl<const SIZE: usize> Line<SIZE> {
     }
 
     // Adds words.
+    #[tactic(auto, using(crate::proofs::Laws::take_fitting), unfolding(crate::specs::Writing::added))]
     pub fn say(&mut self, words: &[u8])
         ensures { self.new ≡ added SIZE self.old words.now }
     {

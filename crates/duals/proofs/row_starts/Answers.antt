@@ -8,8 +8,18 @@ use Rattle.duals.proofs.row_starts.Goals as goal
 
 pub starts_of-requires : goal.starts_of-requires
 starts_of-requires c =
-    let whole = all-sizes c.requires in
-    (search rules, (search rules, (λ k l. search rules, λ k r l e. let size : r ≡ get_or c.args.shape.sizes k 0 = search rules in omega (arith, size, few-rows c.requires l))))
+    let whole = all-sizes c.requires in (
+      search rules,
+      (
+        search rules,
+        (
+          λ k l. search rules,
+          λ k r l e.
+              let size : r ≡ get_or c.args.shape.sizes k 0 = search rules in
+              omega (arith, size, few-rows c.requires l),
+        ),
+      ),
+    )
 
 pub returns : goal.returns
 returns c =

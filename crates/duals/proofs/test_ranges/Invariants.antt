@@ -7,7 +7,7 @@ use Rattle.duals.proofs.Laws.{Rows, family_fault}
 use Rattle.duals.proofs.test_ranges.Given as goal
 
 abbrev pub invariant-loop-row : goal.invariant-loop-row
-invariant-loop-row l = Rows l.multipliers.list.now l.equal (start (row_boxes l.multipliers.counts) l.k) (volume (box_of (row_boxes l.multipliers.counts) l.k)) l.row l.answer
+invariant-loop-row l = let boxes = row_boxes l.multipliers.counts in Rows l.multipliers.list.now l.equal (start boxes l.k) (volume (box_of boxes l.k)) l.row l.answer
 
 abbrev pub decreases-loop-row : goal.decreases-loop-row
 decreases-loop-row l = get_or l.multipliers.starts (l.k + 1) 0 - l.row
