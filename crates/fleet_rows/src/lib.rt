@@ -160,7 +160,7 @@ fn in_service(tables: &Tables, y: usize, g: usize) -> bool
     requires { (y < tables.now.counts.years) × (g < tables.now.counts.plants) }
     ensures { result ≡ not (out_of_service (data_of tables.now) y g) }
 {
-    let this_year = y as u64 + 1;
+    let this_year = (y + 1) as u64;
     let year = tables.by_plant(YEAR, g);
     if tables.is_existing(g) {
         return this_year < year;

@@ -129,7 +129,7 @@ fn below(n: usize) -> Range
     }
 }
 
-// Any number for an existing plant, 0 for a candidate.
+// Any number for an existing plant, 0 for a candidate; `of_candidate` turns it round. One function for both would be told by a flag which of them is meant.
 fn of_existing(tables: &Tables, g: usize) -> Range
     requires { g < tables.now.counts.plants }
     ensures { ranged result ≡ either (existing (data_of tables.now) g) (0 to most32) (0 to 0) }
