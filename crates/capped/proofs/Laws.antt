@@ -68,10 +68,6 @@ plus-plus (Some v) m n = plus-cap (v + m) n ∙ ap cap (omega arith)
 plus-plus None m n = refl
 
 -- What the code of `add` finds.
-pub low-add : {s : Sum} {v : ℕ} (n : ℕ) → s ≡ Some v → v + n ≤ limit → Some (v + n) ≡ plus s n
-unfolding plus
-low-add {s} {v} n e h = rw e (sym (cap-low (v + n) h))
-
 pub high-add : {s : Sum} {v : ℕ} (n : ℕ) → s ≡ Some v → limit < v + n → None ≡ plus s n
 unfolding plus
 high-add {s} {v} n e h = rw e (sym (cap-high (v + n) h))

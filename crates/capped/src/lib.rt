@@ -41,15 +41,7 @@ pub fn of(n: u64) -> Sum
 pub fn add(s: Sum, n: u64) -> Sum
     ensures { result ≡ plus s n }
 {
-    let v = s?;
-    // No function here makes an exact sum above the limit, but a caller can: without this test `LIMIT - v` could wrap.
-    if v > LIMIT {
-        return None;
-    }
-    if n > LIMIT - v {
-        return None;
-    }
-    Some(v + n)
+    of(s?.checked_add(n)?)
 }
 
 // The sum of two sums.

@@ -1,21 +1,18 @@
 use native.Mathlib.Omega.{arith}
+use mathlib.Core.Path.{refl, ◌∙◌}
 use Rattle.capped.specs.Cap.{limit, plus}
-use Rattle.capped.proofs.Laws.{low-add, high-add}
+use Rattle.capped.proofs.Laws.{high-add}
 use borrow.Author.Rules.{rules}
 use Rattle.capped.proofs.add.Goals as goal
 
-pub returns-in_err-v : goal.returns-in_err-v
+pub returns-in_err-s : goal.returns-in_err-s
 unfolding plus
-returns-in_err-v c = search rules
+returns-in_err-s c = search rules
 
-pub returns-then-v-gt-LIMIT : goal.returns-then-v-gt-LIMIT
+pub returns-in_err-checked_add : goal.returns-in_err-checked_add
 unfolding limit
-returns-then-v-gt-LIMIT c = high-add _ (c.in_ok-v.was) (omega arith)
-
-pub returns-then-n-v : goal.returns-then-n-v
-unfolding limit
-returns-then-n-v c = high-add _ (c.in_ok-v.was) (omega arith)
+returns-in_err-checked_add c = c.from_residual-in_err-checked_add.ensures ∙ high-add _ c.in_ok-s.was (omega (arith, c.in_err-checked_add.ensures))
 
 pub returns : goal.returns
-unfolding limit
-returns c = low-add _ (c.in_ok-v.was) (omega arith)
+unfolding plus
+returns c = c.of.ensures ∙ rw (c.in_ok-checked_add.ensures.1, c.in_ok-s.was) refl
