@@ -1,5 +1,5 @@
 -- What the rows of families 26 to 28 say of every plan that meets them, and what the lines of a pair cost.
-use mathlib.Core.Path.{◌≡◌, sym, ap, ap₂, ◌∙◌}
+use mathlib.Core.Path.{◌≡◌, sym, ap, ap₂, ◌∙◌, refl}
 use mathlib.Core.Bool.{Bool}
 use mathlib.Core.List.{List}
 use mathlib.Core.Logic.{⊎_elim}
@@ -7,13 +7,13 @@ use Prim.Native.Nat.{ℕ, zero, suc, ◌+◌, ◌*◌, ◌-◌, ◌≤◌, ◌<�
 use native.Mathlib.Nat.{mul-zero}
 use native.Mathlib.Omega.{arith}
 use lib.Dec.{ltb}
-use borrow.Author.Tests.{lt-ltb, le-ltb}
+use borrow.Author.Tests.{lt-ltb, le-ltb, eq-eqb}
 use Rattle.capped.proofs.Laws.{le-or-lt}
 use Rattle.sums.specs.Sum.{sum, on}
 use Rattle.sums.specs.Span.{fine}
 use Rattle.sums.specs.Index.{Index}
 use Rattle.sums.proofs.Sums.{sum-cong, sum-prefix, sum-one-more}
-use Rattle.sums.proofs.Tests.{on-false, on-true, eqb-true}
+use Rattle.sums.proofs.Tests.{on-false, on-true}
 use Rattle.model.specs.Data.{Data, read, table_boxes, either, ◌to◌, most32, line_limit, line_annuity, Z, Y}
 use Rattle.model.specs.Columns.{built_lines, total_lines}
 use Rattle.model.specs.Families.{row, equation, family_of, row_boxes}
@@ -88,7 +88,7 @@ lines-limited D M x plan y z w hy hz hw =
 none_within : (l : List ℕ) → data_fault l ≡ fine → (z : ℕ) → z < Z (read l) → line_limit (read l) z z ≡ 0
 unfolding table_boxes
 none_within l e z hz =
-    omega (arith, (entry-range (read l) (passed-entries l e) 45 0 z z 0 (omega arith, omega arith, hz, hz, omega arith)).1, ap (λ (b : Bool). (either b (0 to 0) (0 to most32)).most) (eqb-true z))
+    omega (arith, (entry-range (read l) (passed-entries l e) 45 0 z z 0 (omega arith, omega arith, hz, hz, omega arith)).1, ap (λ (b : Bool). (either b (0 to 0) (0 to most32)).most) (eq-eqb z z refl))
 
 pub no-line-within : NoLineWithin
 no-line-within l e M x plan y z hy hz =

@@ -181,7 +181,7 @@ pub fn range_at(tables: &Tables, t: usize, i: usize, j: usize) -> Range
         GEN_CAP => of_existing(tables, i),
         YEAR => plant_year(tables, i),
         MAX_NEW_CAP => of_candidate(tables, i),
-        // An arm for each, with no `|`: the check joins patterns that are neighbours to one range, and then the last arm's proof did not close.
+        // An arm for each of the four, as each of the others has its own.
         TL => between_zones(i, j),
         LINE_LIMIT => between_zones(i, j),
         MW_PER_LINE => between_zones(i, j),

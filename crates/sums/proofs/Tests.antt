@@ -1,12 +1,12 @@
 -- A number under a test, and sums of such numbers: the sum over one index that a test fixes is the summand there. Assumes nothing.
 use mathlib.Core.Path.{◌≡◌, refl, sym, ◌∙◌, ap, ap₂, fun_ext}
 use mathlib.Core.Bool.{Bool, true, false, not, ◌&&◌}
-use mathlib.Core.Logic.{◌≢◌}
 use Prim.Native.Nat.{ℕ, zero, suc, ◌+◌, ◌*◌, ◌-◌, ◌≤◌, ◌<◌, zero-le}
 use native.Mathlib.Nat.{zero-mul, mul-zero, le_refl}
 use native.Mathlib.Numerals.{add-one}
 use native.Mathlib.Omega.{arith}
-use lib.Dec.{T, ltb, ltb→lt, lt→ltb, eqb, eqb→eq, eqb_refl, eqb-zero-suc, eqb-suc-zero, eqb-suc-suc}
+use borrow.Author.Tests.{eq-eqb, ne_eqb}
+use lib.Dec.{T, ltb, ltb→lt, lt→ltb, eqb, eqb-zero-suc, eqb-suc-zero, eqb-suc-suc}
 use Rattle.sums.specs.Sum.{sum, on}
 use Rattle.sums.proofs.Sums.{sum-delta, sum-zero, sum-const-zero}
 
@@ -40,24 +40,10 @@ pub on-sum : (b : Bool) (n : ℕ) (f : ℕ → ℕ) → sum n (λ i. on b (f i))
 on-sum true n f = refl
 on-sum false n f = sum-const-zero n
 
-pub eqb-true : (n : ℕ) → eqb n n ≡ true
-eqb-true n = go (eqb n n) (eqb_refl n)
-  where
-    go : (b : Bool) → T b → b ≡ true
-    go true t = refl
-    go false t = elim t [ ]
-
-pub eqb-false : (m n : ℕ) → m ≢ n → eqb m n ≡ false
-eqb-false m n h = go (eqb m n) (λ t. h (eqb→eq m n t))
-  where
-    go : (b : Bool) → (T b → ⊥) → b ≡ false
-    go true f = absurd (f tt)
-    go false f = refl
-
 -- the test fixes the outermost of one, two, three or four sums
 module _ (n k : ℕ) (l : k < n) where
   pub at1 : (f : ℕ → ℕ) → sum n (λ i. on (eqb i k) (f i)) ≡ f k
-  at1 f = sum-delta n k (λ i. on (eqb i k) (f i)) l (λ i _ d. ap (λ (b : Bool). on b (f i)) (eqb-false i k d)) ∙ ap (λ (b : Bool). on b (f k)) (eqb-true k)
+  at1 f = sum-delta n k (λ i. on (eqb i k) (f i)) l (λ i _ d. ap (λ (b : Bool). on b (f i)) (ne_eqb i k d)) ∙ ap (λ (b : Bool). on b (f k)) (eq-eqb k k refl)
 
   pub at2 : (m : ℕ) (f : ℕ → ℕ → ℕ) → sum n (λ i. sum m (λ j. on (eqb i k) (f i j))) ≡ sum m (λ j. f k j)
   at2 m f = ap (sum n) (fun_ext (λ i. on-sum (eqb i k) m (f i))) ∙ at1 (λ i. sum m (f i))
@@ -92,7 +78,7 @@ module _ (n k : ℕ) (l : k < n) where
 
 -- a test on the number after: the row before, the row after
 pub prev1 : (n s : ℕ) → s < n → (f : ℕ → ℕ) → sum n (λ i. on (eqb (i + 1) s) (f i)) ≡ on (not (eqb s 0)) (f (s - 1))
-prev1 n zero l f = sum-zero n (λ i _. ap (λ (b : Bool). on b (f i)) (eqb-false (i + 1) 0 (λ e. omega arith)))
+prev1 n zero l f = sum-zero n (λ i _. ap (λ (b : Bool). on b (f i)) (ne_eqb (i + 1) 0 (λ e. omega arith)))
 prev1 n (suc k) l f =
     ap (sum n) (fun_ext (λ i. ap (λ (b : Bool). on b (f i)) (ap (λ (v : ℕ). eqb v (suc k)) (add-one i) ∙ eqb-suc-suc i k)))
     ∙ at1 n k (omega arith) f
@@ -103,7 +89,7 @@ next1 n k f = go (ltb (k + 1) n) (ltb→lt (k + 1) n) (lt→ltb (k + 1) n)
   where
     go : (b : Bool) → (T b → k + 1 < n) → (k + 1 < n → T b) → sum n (λ i. on (eqb (k + 1) i) (f i)) ≡ on b (f (k + 1))
     go true h c = to1 n (k + 1) (h tt) f
-    go false h c = sum-zero n (λ i l. ap (λ (b : Bool). on b (f i)) (eqb-false (k + 1) i (λ e. c (omega arith))))
+    go false h c = sum-zero n (λ i l. ap (λ (b : Bool). on b (f i)) (ne_eqb (k + 1) i (λ e. c (omega arith))))
 
 pub on-le : (b : Bool) (u : ℕ) → on b u ≤ u
 on-le true u = le_refl u

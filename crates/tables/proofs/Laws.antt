@@ -109,9 +109,9 @@ module _ {c : Counts} (few : Counted c) where
   boxed {b} {set} k e q = (rw e q, subst Small (sym q) (small-set k))
 
 -- the steps to a member's number fit: its indices are small with their set
-pub few-inside : {c : Counts} {b : Box} {k y i j s : ℕ} → Counted c × Inside c k y i j s → Small b
+pub few_inside : {c : Counts} {b : Box} {k y i j s : ℕ} → Counted c × Inside c k y i j s → Small b
     → (y * b.firsts + i ≤ 352) × ((y * b.firsts + i) * b.seconds + j ≤ 2824) × (inside b y i j s ≤ 1084800)
-few-inside {b} {k} {y} {i} {j} {s} m h =
+few_inside {b} {k} {y} {i} {j} {s} m h =
     let f = small-set m.0 k in
     let n = m.1 in
     let hy : y ≤ 10 = omega arith in

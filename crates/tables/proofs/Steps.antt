@@ -1,7 +1,7 @@
 -- A walk over the members of a list of boxes in the order of their numbers, left at the first fault: what each of its five loops knows.
 -- The walks over the rows and over the columns are of this kind. Assumes nothing.
 use Rattle.std.specs.Prelude.{Result, Ok, Err}
-use mathlib.Core.Path.{◌≡◌, refl, sym, ap, ◌∙◌}
+use mathlib.Core.Path.{◌≡◌, refl, ap, ◌∙◌}
 use mathlib.Core.List.{List}
 use Prim.Native.Nat.{ℕ, ◌+◌, ◌*◌, ◌≤◌, ◌<◌, zero-le}
 use native.Mathlib.Nat.{mul-le-mul, le_antisymm}

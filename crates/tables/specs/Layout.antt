@@ -1,14 +1,12 @@
 -- How the calls lay out what they work on: the counts in range, the shape record, the starts of tables and columns, and what a reader of an entry may rely on.
-use Rattle.std.specs.Prelude.{◌≡◌, List, [], ◌∷◌, map, ℕ, ◌+◌, ◌*◌, ◌≤◌, ◌<◌, length, get_or}
+use Rattle.std.specs.Prelude.{◌≡◌, List, map, ℕ, ◌+◌, ◌≤◌, ◌<◌, length, get_or}
 use Rattle.sums.specs.declared.Box.{Box}
 use Rattle.sums.specs.Sum.{sum}
 use Rattle.sums.specs.Index.{Index, box_of, volume, count, number}
-use Rattle.model.specs.declared.Shape.{Shape}
 use Rattle.model.specs.declared.Counts.{Counts}
 use Rattle.model.specs.Counts.{sets}
-use Rattle.model.specs.Data.{Data, Table, tables, table_boxes, most_counts, data_length, read}
+use Rattle.model.specs.Data.{Table, tables, most_counts, data_length, read}
 use Rattle.model.specs.Columns.{column_sets, column_boxes}
-use Rattle.model.specs.Families.{row_boxes}
 
 -- Counts that passed refusal 1. The fact is asked of who hands over bare counts, and is no field of a struct round them: `Counts` is the record of the
 -- definitions, which `read` makes of any list. Tried with a struct (`slices_of`, and `peaks` as its caller): no clause got shorter, and each answer over the

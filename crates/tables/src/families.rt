@@ -1,5 +1,5 @@
-// The families' numbers, counted from 0. Numbers and no enum: document 01 has a row's family matched as a number into the fixed table of families, and the
-// walks over all families count with it. RAMP_UPWARD is `ramp_upward` of the definitions: RAMP_UP is a table of the data.
+// The families' numbers, counted from 0. Numbers and no enum: each is a place in document 01's fixed table of families, the walks over all families count with
+// it, and a `Place` has the kind of a row, of a column or of an entry alike. RAMP_UPWARD is `ramp_upward` of the definitions: RAMP_UP is a table of the data.
 pub const BALANCE: usize = 0;
 
 pub const TRANSFER: usize = 1;

@@ -1,5 +1,5 @@
-// The tables' numbers: in the data list, and in the plan. Numbers and no enum: they are places in the fixed tables (index sets, ranges, starts) of document
-// 01, and the walks over all tables count with them.
+// The tables' numbers: in the data list, and in the plan. Numbers and no enum: each is a place in the lists of index sets, ranges and starts, and the walks over
+// all tables count with them.
 pub const RATE: usize = 0;
 
 pub const WEIGHT: usize = 1;

@@ -200,6 +200,7 @@ pub fn family_at(k: usize) -> Family
 }
 
 // `Counted` is asked here and below: the reason stands beside it (specs/Layout.antt).
+
 // S = Q·D·T
 pub fn slices_of(c: Counts) -> usize
     requires { Counted c }
@@ -208,7 +209,8 @@ pub fn slices_of(c: Counts) -> usize
     c.seasons * c.days * c.hours
 }
 
-// The index set of a code. An unknown code has no members; no table, kind of column or family has one (the law `known-codes`).
+// The index set of a code. An unknown code has no members; no table, kind of column or family has one (the law `known-codes`, proofs/Laws.antt).
+#[tactic(auto, using(crate::proofs::Laws::boxed))]
 pub fn box_of(c: Counts, set: usize) -> Box
     requires { Counted c }
     ensures { (result ≡ box_of (sets c) set) × Small result }
@@ -347,6 +349,7 @@ pub fn members_of(b: Box) -> usize
 }
 
 // The number of a member inside the index set of code `k`, the last index running fastest.
+#[tactic(auto, using(crate::proofs::Laws::few_inside))]
 pub fn inside_of(c: Counts, k: usize, y: usize, i: usize, j: usize, s: usize) -> usize
     requires { Counted c × Inside c k y i j s }
     ensures { result ≡ inside (box_of (sets c) k) y i j s }
@@ -355,8 +358,8 @@ pub fn inside_of(c: Counts, k: usize, y: usize, i: usize, j: usize, s: usize) ->
     ((y * b.firsts + i) * b.seconds + j) * b.slices + s
 }
 
-// The counts and the family sizes that follow from them. A loop: tried with `array::from_fn`, whose contract leaves the closure's state open at each call;
-// the proof that it stays the counts did not close.
+// The counts and the family sizes that follow from them. A loop: tried with `array::from_fn`, whose contract (as `map`'s) leaves the closure's state open at
+// each call; the proof that it stays the counts did not close.
 pub fn shape_of(c: Counts) -> Shape
     requires { Counted c }
     ensures { result ≡ shape_of c }

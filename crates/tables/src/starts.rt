@@ -91,8 +91,9 @@ const COLUMN_SETS: [usize; COLUMN_KIND_COUNT] = [
     BY_LINK, // 13 total
 ];
 
-// Two readers of two fixed tables, here and as `has_constant` and `most_count` elsewhere: each has its definition's name and range, and one for all would be
-// handed the fixed table, which no caller has.
+// Two readers of two fixed tables, as `family_at` (sets.rt), `fixed_range` (ranges), `has_constant` (constants) and `most_count` (data_tests) read one each: each
+// has its definition's name and range, and one for all would be handed the fixed table, which no caller has. The same of the two boxes and starts below.
+
 // The code of the index set of a table of the data.
 pub fn table_set(t: usize) -> usize
     requires { t < table_count }
@@ -110,6 +111,7 @@ pub fn column_set(k: usize) -> usize
 }
 
 // `Counted` is asked here and below: the reason stands beside it (specs/Layout.antt).
+
 // The index set of a table of the data.
 pub fn table_box(c: Counts, t: usize) -> Box
     requires { Counted c × (t < table_count) }
@@ -127,6 +129,7 @@ pub fn column_box(c: Counts, k: usize) -> Box
 }
 
 // Where each of n parts of a list starts, and after the last of them where the list ends: the parts follow one another from the first place on.
+// A loop: a running sum of which each step is kept, in fixed memory.
 pub fn starts_of<const N: usize, F: Fn(usize) -> usize>(
     n: usize,
     from: usize,
@@ -156,8 +159,8 @@ fn starts_from(c: Counts, kinds: &[usize], from: usize) -> Starts
     starts_of(kinds.len(), from, |k| members_of(box_of(c, kinds[k])))
 }
 
-// The starts of the data list's tables; the counts stand before them. Here and in `column_starts` one function serves both, `starts_from`; what is left is
-// whose index sets they are, and from which place.
+// The starts of the data list's tables; the counts stand before them. One function serves this and `column_starts`; what is left is whose index sets they
+// are, and from which place.
 pub fn table_starts(c: Counts) -> Starts
     requires { Counted c }
     ensures { (length result ≡ table_count + 1) × ((t : ℕ) → t ≤ table_count → get_or result t 0 ≡ start_from c table_sets 7 t) }

@@ -1,7 +1,6 @@
 use Prim.Native.Nat.{ℕ, ◌+◌, zero-le}
 use native.Mathlib.Omega.{arith}
 use lib.ListN.{length-set, length-replicate}
-use borrow.Author.Rules.{rules}
 use Rattle.sums.specs.Sum.{sum}
 use Rattle.sums.proofs.Sums.{sum-one-more}
 use Rattle.tables.proofs.Laws.{stored}
