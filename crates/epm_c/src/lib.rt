@@ -1,5 +1,5 @@
 // The calls for C and Rust. Each slice passes as a pointer and a length; `out` takes an answer's two figures.
-// C has no `Result`, no lent struct and no two returned values: so a number comes back, the lists are parameters, and the figures go into `out`.
+// The C interface (include/epm.h) asks for it: a number comes back in place of a `Result`, the lists are parameters, and the figures go into `out`.
 #![tactic(auto)]
 
 ghost use Rattle.std.specs.Prelude.{◌≡◌, ◌<◌, ◌≤◌, length};

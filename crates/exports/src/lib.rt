@@ -6,7 +6,7 @@ ghost use Rattle.exports.specs.Figures.{figures};
 
 use model::Code;
 
-// The two figures of a code, and its number: C takes no struct of a Rust layout, so the figures are written and the number comes back.
+// The two figures of a code, and its number: the C interface (include/epm.h) has the figures written and the number returned, in place of a `Code`.
 #[tactic(auto, unfolding(crate::specs::Figures::figures))]
 pub fn put(out: &mut [u64], code: Code) -> u32
     requires { 2 ≤ length out.old }
