@@ -46,7 +46,7 @@ impl FromDigits for u32 {
 
     ghost few = { lit≤ tt };
 
-    // Eight digits fit, so `as` is proved to lose nothing; `u32::try_from` would add a failure that cannot come. `narrow` of `ranges` has the same cast, of another type.
+    // `as` is proved to lose nothing; `u32::try_from` adds a failure that cannot come. `narrow` of `ranges` shares the cast alone, from another type.
     fn from_digits(v: u64) -> u32 {
         v as u32
     }
