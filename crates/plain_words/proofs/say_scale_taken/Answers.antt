@@ -4,4 +4,4 @@ use Rattle.plain_words.proofs.say_scale_taken.Goals as goal
 
 pub returns : goal.returns
 unfolding scale_taken
-returns c = rw (← c.scale_in.ensures, ← c.is_empty.ensures) (said-joined _ _ _ _ c.say_with.ensures c.say_either.ensures)
+returns c = rw (← c.scale_in.ensures, ← c.from.ensures, ← c.is_empty.ensures) (said-joined _ _ _ _ c.say_with.ensures c.say_either.ensures)
