@@ -14,7 +14,7 @@ use borrow.Author.Tests.{le-leb, ltb-true}
 use Rattle.compared.specs.declared.NoBalance.TheVariants.{Unsure}
 use Rattle.capped.specs.Cap.{limit, cap, times, Sum}
 use Rattle.compared.specs.Compared.{minus, net_of}
-use Rattle.capped.proofs.Laws.{plus-cap, times-cap}
+use Rattle.capped.proofs.Laws.{plus-cap, plus-plus, times-cap}
 use Rattle.compared.proofs.Laws.{net-cap}
 use Rattle.sums.specs.declared.Box.{Box}
 use Rattle.sums.specs.Sum.{sum}
@@ -27,17 +27,24 @@ use Rattle.model.specs.Families.{row_boxes, family_count}
 use Rattle.model.specs.Tests.{constant⁺, constant⁻, multiplier, m⁺, m⁻, constants⁺, constants⁻, unless, gap_fault, gap}
 use Rattle.model.specs.Calls.{certificate, issued}
 use Rattle.constants.specs.declared.Constant.{Constant}
-use Rattle.constants.specs.Constants.{constant_of, has_constant}
+use Rattle.constants.specs.Constants.{constant_of, has_constant, netted_of}
 use Rattle.row_constants.proofs.Laws.{without}
+use Rattle.duals.specs.declared.Multiplier.{Multiplier}
 use Rattle.duals.specs.Multipliers.{multiplier_of}
+use Rattle.column_terms.specs.Pairs.{added, taken}
 use Rattle.duals.proofs.Laws.{row-kinds}
 use Rattle.column_terms.specs.declared.Pair.{Pair}
 use Rattle.gap.specs.Signs.{capped, more, with_row, term⁺, term⁻, with_term, terms_of, walked_box, settled}
 
 -- A row's term
 
-pub sided : (t : Pair) {u v d w : ℕ} → u ≡ v → d ≡ w → ◌≡◌ {A = Pair} (more t u d) (more t v w)
+sided : (t : Pair) {u v d w : ℕ} → u ≡ v → d ≡ w → ◌≡◌ {A = Pair} (more t u d) (more t v w)
 sided t p q = rw (p, q)
+
+-- added as the code adds it, by the sides of the netted constant
+pub with_row_is : (t : Pair) (m : Multiplier) (k : Constant) {n : Constant} {s r : Pair} → n ≡ netted_of k → s ≡ added t n.adds m → r ≡ taken s n.takes m → r ≡ with_row t m k
+unfolding with_row netted_of added taken
+with_row_is t m k e p q = rw (q, p, e, plus-plus t.up _ _, plus-plus t.down _ _) (sided t (omega arith) (omega arith))
 
 -- as the code has its multiplier and its constant
 pub term_is : (D : Data) (ms : List ℤ) {c : Counts} (t : Pair) (r : Index) → D.counts ≡ c
