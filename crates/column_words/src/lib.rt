@@ -15,6 +15,7 @@ ghost use Rattle.sentences.specs.Sentences.{column_words, priced_words, column_o
 use data_tests::counts_of;
 use figures::{ColumnFigures, column_figures};
 use index_words::say_place;
+use model::COLUMN_KIND_COUNT;
 use places::column_place;
 use sentences::{say_amount, say_balance};
 use sums::Place;
@@ -22,7 +23,7 @@ use tables::starts::column_set;
 use writer::{Line, ROOM};
 
 // The tables of the plan's columns, by number.
-const COLUMN_NAMES: [&str; 14] = [
+const COLUMN_NAMES: [&str; COLUMN_KIND_COUNT] = [
     "cap",
     "build",
     "retire",
@@ -40,6 +41,7 @@ const COLUMN_NAMES: [&str; 14] = [
 ];
 
 // A column's number, table and indices. Its kind and indices are returned.
+// Not one function with the rows' and the entries': as `row_words::say_row`.
 fn say_column(line: &mut Line<ROOM>, data: &[u32], column: usize) -> Place
     requires { (data_fault «data».now ≡ fine) × (column < count (column_boxes (read «data».now).counts)) }
     ensures member { Numbered (column_boxes (read «data».now).counts) column result }
@@ -68,6 +70,8 @@ fn say_priced(line: &mut Line<ROOM>, sums: ColumnFigures)
 }
 
 // A column of which a sum of terms is too large.
+// `data, multipliers` come singly, here and below: each sentence is handed what it reads, and `answer_words::Inputs` would hand it N and the plan too.
+// `OfColumn` has `data_fault` ≡ fine, not the tables: a refusal comes back without them, so explain has bare lists, and `column_figures` lays them out again.
 pub fn say_column_off_scale(line: &mut Line<ROOM>, data: &[u32], multipliers: &[i64], column: usize)
     requires { OfColumn «data».now multipliers.now column }
     ensures { line.new ≡ added room line.old (column_off_scale_words (read «data».now) multipliers.now column) }

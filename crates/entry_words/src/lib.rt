@@ -11,6 +11,7 @@ ghost use Rattle.sentences.specs.Sentences.{entry_words, figure_words, shape_wor
 use data_tests::{counts_of, most_count};
 use figures::{EntryFigures, entry_figures};
 use index_words::{say_counted, say_place};
+use model::TABLE_COUNT;
 use places::entry_place;
 use sentences::say_range;
 use sums::Place;
@@ -24,7 +25,7 @@ const COUNT_NAMES: [&str; 7] = [
 ];
 
 // The tables of the data, by number.
-const TABLE_NAMES: [&str; 48] = [
+const TABLE_NAMES: [&str; TABLE_COUNT] = [
     "R",
     "V",
     "Dur",
@@ -76,6 +77,7 @@ const TABLE_NAMES: [&str; 48] = [
 ];
 
 // An entry's place in the list, table and indices. Its kind and indices are returned.
+// Not one function with the rows' and the columns': as `row_words::say_row`.
 fn say_entry(line: &mut Line<ROOM>, data: &[u32], entry: usize) -> Place
     requires { OfEntry «data».now entry }
     ensures member { Member (table_boxes (read «data».now).counts) (index_of result) × (place_of (read «data».now).counts (index_of result) ≡ entry) }

@@ -48,6 +48,8 @@ pub struct EntryFigures {
 }
 
 // What a row's positive terms and its negative terms come to, of data and plan that passed refusals 1 to 3, 16 and 5.
+// Lists come singly, here and in `column_figures`: each is handed what it reads, and `answer_words::Inputs` would hand each all four.
+// Both ask `data_fault` ≡ fine, not the tables: a refusal comes back without them, so explain has the bare lists, and they are laid out again here.
 pub fn row_figures(data: &[u32], scale: u32, plan: &[u32], p: Place) -> Sides
     requires { (data_fault «data».now ≡ fine) × ((length plan.now ≡ count (column_boxes (read «data».now).counts)) × Member (row_boxes (read «data».now).counts) (index_of p)) }
     ensures { result ≡ row_figures (read «data».now) scale (entries (read «data».now) plan.now) (index_of p) }

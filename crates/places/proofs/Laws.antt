@@ -27,7 +27,7 @@ use Rattle.model.specs.Families.{family, families, family_of, row_boxes, shape_o
 use Rattle.tables.specs.Layout.{table_sets, start_from}
 use Rattle.tables.proofs.Laws.{get_or-map-in, box-at, start-at}
 use Rattle.sums.specs.declared.Place.{Place}
-use Rattle.places.specs.Numbers.{InBox, slice_at, SlicesBack}
+use Rattle.places.specs.Numbers.{InBox, Starts, slice_at, SlicesBack}
 
 -- The kind that holds a number, as the point that parts the starts by it
 
@@ -93,11 +93,7 @@ module _ (b : Box) {m : ℕ} (h : m < volume b) where
     number = rw (div-add-mod' (m / b.slices / b.seconds) b.firsts, div-add-mod' (m / b.slices) b.seconds, div-add-mod' m b.slices);
   }
 
--- the numbers at which the kinds of a list of index sets start, counted from a first one, and where the last ends
-pub record Starts (boxes : List Box) (from : ℕ) (at : List ℕ) : Type 0 where
-  pub long : length at ≡ length boxes + 1
-  pub is : (k : ℕ) → k ≤ length boxes → get_or at k 0 ≡ from + start boxes k
-
+-- among the starts of the kinds of a list of index sets
 module _ {boxes : List Box} {from : ℕ} {at : List ℕ} (s : Starts boxes from at) where
   rises : IsNonDecreasing at
   rises =
@@ -110,21 +106,12 @@ module _ {boxes : List Box} {from : ℕ} {at : List ℕ} (s : Starts boxes from 
       let e : length at - 1 ≡ length boxes = omega (arith, s.long) in
       (rises, (omega (arith, s.is 0 (omega arith)), omega (arith, ap (λ (k : ℕ). get_or at k 0) e, s.is (length boxes) (omega arith))))
 
-  pub is-kind : {k : ℕ} → k + 1 < length at → k < length boxes
-  is-kind h = omega (arith, s.long)
-
-  -- a number from the start of kind k on and below the next start is that of a member of kind k, whose index set is b
-  module _ {k n : ℕ} (found : (k + 1 < length at) × ((get_or at k 0 ≤ n) × (n < get_or at (k + 1) 0))) {b : Box} (e : k < length boxes → b ≡ box_of boxes k) where
-    pub in-kind : n - get_or at k 0 < volume b
-    in-kind =
-        rw (e (is-kind found.0))
-        (omega (arith, found, s.is k (omega (arith, is-kind found.0)), s.is (k + 1) (omega (arith, is-kind found.0)), sum-one-more k (λ i. volume (box_of boxes i))))
-
-    pub numbered_is : {p : Place} → InBox b k (n - get_or at k 0) p → Member boxes (index_of p) × (from + number boxes (index_of p) ≡ n)
-    numbered_is {p} m =
-        let l = is-kind found.0 in
-        let w : inside (box_of boxes k) p.year p.first p.second p.slice ≡ n - get_or at k 0 = rw (← e l) m.number in
-        rw m.kind ((l, rw (← e l) m.year, rw (← e l) m.first, rw (← e l) m.second, rw (← e l) m.slice), omega (arith, w, found.1.0, s.is k (omega (arith, l))))
+  -- a kind whose index set is b: the next one starts no later than where b's members end
+  pub wide : {Is : ℕ → Box → Type 0} → ((k : ℕ) (b : Box) → k < length boxes → Is k b → b ≡ box_of boxes k)
+      → (k : ℕ) (b : Box) → k + 1 < length at → Is k b → get_or at (k + 1) 0 ≤ get_or at k 0 + volume b
+  wide set k b h e =
+      let l : k < length boxes = omega (arith, s.long) in
+      omega (arith, s.is k (omega arith), s.is (k + 1) (omega arith), sum-one-more k (λ i. volume (box_of boxes i)), ap volume (set k b l e))
 
 -- the starts and the index sets of the rows, of the columns and of the tables, in this form
 
@@ -146,9 +133,9 @@ module _ (c : Counts) (at : List ℕ) where
   table-starts-are s = record { long = s.0; is = λ t h. s.1 t h ∙ start-at c table_sets 7 t h }
 
 module _ (c : Counts) {b : Box} {k : ℕ} where
-  pub row-box : k < family_count → {f : Family} → f ≡ family_of k → b ≡ box_of (sets c) f.set → b ≡ box_of (row_boxes c) k
+  pub row-box : k < family_count → b ≡ box_of (sets c) (family_of k).set → b ≡ box_of (row_boxes c) k
   unfolding family_of row_boxes
-  row-box h e q = q ∙ rw e (sym (get_or-map-in (λ (f : Family). box_of (sets c) f.set) families (family 0 0 false) (box 0 0 0 0) k h))
+  row-box h q = q ∙ sym (get_or-map-in (λ (f : Family). box_of (sets c) f.set) families (family 0 0 false) (box 0 0 0 0) k h)
 
   pub column-box : k < column_kind_count → b ≡ box_of (sets c) (get_or column_sets k 0) → b ≡ box_of (column_boxes c) k
   unfolding column_boxes

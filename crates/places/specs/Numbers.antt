@@ -1,8 +1,8 @@
 -- A place as a kind and four indices, and what it is to have a number.
-use Rattle.std.specs.Prelude.{◌≡◌, List, ℕ, ◌+◌, ◌*◌, ◌/◌, ◌%◌, ◌<◌, get_or}
+use Rattle.std.specs.Prelude.{◌≡◌, List, ℕ, ◌+◌, ◌*◌, ◌/◌, ◌%◌, ◌≤◌, ◌<◌, length, get_or}
 use Rattle.sums.specs.declared.Box.{Box}
 use Rattle.sums.specs.Span.{listing}
-use Rattle.sums.specs.Index.{Index, index, index_of, inside, number, members, Member}
+use Rattle.sums.specs.Index.{Index, index, index_of, inside, start, number, members, Member}
 use Rattle.model.specs.declared.Counts.{Counts}
 use Rattle.model.specs.Counts.{slices_of}
 use Rattle.tables.specs.Layout.{Counted}
@@ -25,6 +25,11 @@ pub record InBox (b : Box) (k m : ℕ) (p : Place) : Type 0 where
   pub second : p.second < b.seconds
   pub slice : p.slice < b.slices
   pub number : inside b p.year p.first p.second p.slice ≡ m
+
+-- the numbers at which the kinds of a list of index sets start, counted from a first one, and where the last ends
+pub record Starts (boxes : List Box) (from : ℕ) (at : List ℕ) : Type 0 where
+  pub long : length at ≡ length boxes + 1
+  pub is : (k : ℕ) → k ≤ length boxes → get_or at k 0 ≡ from + start boxes k
 
 -- a slice by its season, its day of the season and its hour of the day
 unfoldable pub slice_at : Counts → ℕ → Slice

@@ -17,6 +17,7 @@ use data_tests::counts_of;
 use duals::multiplier_in;
 use figures::row_figures;
 use index_words::say_place;
+use model::FAMILY_COUNT;
 use places::row_place;
 use row_sums::Sides;
 use sentences::{say_amount, say_signed};
@@ -25,7 +26,7 @@ use tables::sets::family_at;
 use writer::{Line, ROOM};
 
 // The families of rows, by number.
-const FAMILY_NAMES: [&str; 28] = [
+const FAMILY_NAMES: [&str; FAMILY_COUNT] = [
     "demand balance",
     "transfer limit",
     "spinning reserve",
@@ -70,6 +71,7 @@ fn say_equation(line: &mut Line<ROOM>, equation: u32)
 }
 
 // A row's number, equation with its name, and indices. Its kind and indices are returned.
+// Not one function with `say_column` and `say_entry`: they have no equation between number and name, and each has its index set from another table.
 fn say_row(line: &mut Line<ROOM>, data: &[u32], row: usize) -> Place
     requires { (data_fault «data».now ≡ fine) × (row < count (row_boxes (read «data».now).counts)) }
     ensures member { Numbered (row_boxes (read «data».now).counts) row result }
@@ -96,6 +98,8 @@ fn say_sums(line: &mut Line<ROOM>, sums: Sides)
 }
 
 // A row of which a sum is too large.
+// `data, scale, plan` and `data, multipliers` come singly: each sentence is handed what it reads, and `answer_words::Inputs` would hand each all four.
+// `OfRow` has `data_fault` ≡ fine, not the tables: a refusal comes back without them, so explain has the bare lists, and `row_figures` lays them out again.
 pub fn say_off_scale(line: &mut Line<ROOM>, data: &[u32], scale: u32, plan: &[u32], row: usize)
     requires { OfRow «data».now plan.now row }
     ensures { line.new ≡ added room line.old (off_scale_words (read «data».now) scale (entries (read «data».now) plan.now) row) }
