@@ -17,7 +17,7 @@ use crate::sets::{
     BY_PLANT_SLICE, BY_SLICE, BY_YEAR, BY_YEAR_FUEL, BY_YEAR_PLANT, BY_YEAR_ZONE,
     BY_YEAR_ZONE_SLICE, BY_ZONE, SINGLE, inside_of,
 };
-use crate::starts::Starts;
+use crate::starts::{ColumnStarts, TableStarts};
 use model::Counts;
 
 // A number of a list, widened.
@@ -36,7 +36,7 @@ pub fn number_at(list: &[u32], i: usize) -> u64
 pub struct Tables<'a> {
     pub list: &'a [u32],
     pub counts: Counts,
-    pub starts: Starts,
+    pub starts: TableStarts,
     pub ghost laid_out: { TablesAt list.now starts counts },
 }
 
@@ -45,7 +45,7 @@ pub struct Tables<'a> {
 pub struct Plan<'a> {
     pub list: &'a [u32],
     pub counts: Counts,
-    pub starts: Starts,
+    pub starts: ColumnStarts,
     pub ghost counted: { Counted counts },
     pub ghost laid_out: { ColumnsAt list.now starts counts },
 }

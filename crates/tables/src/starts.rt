@@ -15,11 +15,15 @@ use crate::sets::{
 use model::{COLUMN_KIND_COUNT, Counts, TABLE_COUNT};
 use sums::Box;
 
-// Where each table of the data starts, or each kind of column in the plan, and after the last of them where the list ends.
-// One length serves both: there are more tables than kinds of column.
-pub const STARTS: usize = TABLE_COUNT + 1;
+// Where each table of the data starts, and after the last of them where the list ends.
+pub const TABLE_STARTS: usize = TABLE_COUNT + 1;
 
-pub type Starts = [usize; STARTS];
+pub type TableStarts = [usize; TABLE_STARTS];
+
+// The same of the kinds of column in a plan.
+pub const COLUMN_STARTS: usize = COLUMN_KIND_COUNT + 1;
+
+pub type ColumnStarts = [usize; COLUMN_STARTS];
 
 // The code of each table's index set, in the order of the data list.
 const TABLE_SETS: [usize; TABLE_COUNT] = [
@@ -152,16 +156,16 @@ pub fn starts_of<const N: usize, F: Fn(usize) -> usize>(
 }
 
 // Where each of the kinds starts that a list of index sets names, and after the last of them where the list ends.
-fn starts_from(c: Counts, kinds: &[usize], from: usize) -> Starts
-    requires { Counted c × ((length kinds.now ≤ table_count) × (from ≤ 7)) }
-    ensures { (length result ≡ table_count + 1) × ((k : ℕ) → k ≤ length kinds.now → get_or result k 0 ≡ start_from c kinds.now from k) }
+fn starts_from<const N: usize>(c: Counts, kinds: &[usize], from: usize) -> [usize; N]
+    requires { Counted c × ((length kinds.now < N) × ((length kinds.now ≤ table_count) × (from ≤ 7))) }
+    ensures { (length result ≡ N) × ((k : ℕ) → k ≤ length kinds.now → get_or result k 0 ≡ start_from c kinds.now from k) }
 {
     starts_of(kinds.len(), from, |k| members_of(box_of(c, kinds[k])))
 }
 
 // The starts of the data list's tables; the counts stand before them. One function serves this and `column_starts`; what is left is whose index sets they
 // are, and from which place.
-pub fn table_starts(c: Counts) -> Starts
+pub fn table_starts(c: Counts) -> TableStarts
     requires { Counted c }
     ensures { (length result ≡ table_count + 1) × ((t : ℕ) → t ≤ table_count → get_or result t 0 ≡ start_from c table_sets 7 t) }
 {
@@ -170,9 +174,9 @@ pub fn table_starts(c: Counts) -> Starts
 }
 
 // The starts of the plan's tables.
-pub fn column_starts(c: Counts) -> Starts
+pub fn column_starts(c: Counts) -> ColumnStarts
     requires { Counted c }
-    ensures { (length result ≡ table_count + 1) × ((k : ℕ) → k ≤ column_kind_count → get_or result k 0 ≡ start_from c column_sets 0 k) }
+    ensures { (length result ≡ column_kind_count + 1) × ((k : ℕ) → k ≤ column_kind_count → get_or result k 0 ≡ start_from c column_sets 0 k) }
 {
     let kinds = COLUMN_SETS;
     starts_from(c, &kinds, 0)
