@@ -7,15 +7,14 @@ use Prim.Native.Nat.{ℕ, zero, suc, ◌+◌, ◌*◌, ◌-◌, ◌/◌, ◌%◌
 use native.Mathlib.Nat.{zero-add, mul-zero, mod-lt, div-lt_iff_lt-mul, div-add-mod'}
 use native.Mathlib.Omega.{arith}
 use lib.Dec.{leb}
-use lib.ListN.{length, get_or, take}
+use lib.ListN.{length, get_or}
 use borrow.Author.Tests.{leb-true, leb-false}
 use Rattle.capped.proofs.Laws.{le-or-lt}
 use Rattle.std.specs.List.Sorted.{IsNonDecreasing, IsPartitionPoint}
-use lib.Seq.{get_or-take, length-take-le}
 use Rattle.std.proofs.lemmas.List.Sorted.{IsNonDecreasingBy-from_default}
 use Rattle.sums.specs.declared.Box.{Box}
 use Rattle.sums.specs.Sum.{sum}
-use Rattle.sums.specs.Index.{box, box_of, volume, inside, start, count, number, Member, index_of}
+use Rattle.sums.specs.Index.{box, box_of, volume, start, count}
 use Rattle.sums.proofs.Sums.{sum-one-more, sum-prefix}
 use Rattle.model.specs.declared.Counts.{Counts}
 use Rattle.model.specs.declared.Family.{Family}
@@ -26,7 +25,6 @@ use Rattle.model.specs.Columns.{column_sets, column_boxes, column_kind_count}
 use Rattle.model.specs.Families.{family, families, family_of, row_boxes, shape_of, family_count}
 use Rattle.tables.specs.Layout.{table_sets, start_from}
 use Rattle.tables.proofs.Laws.{get_or-map-in, box-at, start-at}
-use Rattle.sums.specs.declared.Place.{Place}
 use Rattle.places.specs.Numbers.{InBox, Starts, slice_at, SlicesBack}
 
 -- The kind that holds a number, as the point that parts the starts by it
@@ -120,13 +118,9 @@ module _ (c : Counts) (at : List ℕ) where
   unfolding row_boxes shape_of
   row-starts-are e s = record { long = s.0; is = λ k h. s.1 k h ∙ ap (λ (r : Shape). start (row_boxes r.counts) k) e ∙ sym (zero-add _) }
 
-  -- one length serves the starts of the tables and those of the columns, so the latter are the first of their list
-  pub column-starts-are : (length at ≡ table_count + 1) × ((k : ℕ) → k ≤ column_kind_count → get_or at k 0 ≡ start_from c column_sets 0 k) → Starts (column_boxes c) 0 (take (column_kind_count + 1) at)
+  pub column-starts-are : (length at ≡ column_kind_count + 1) × ((k : ℕ) → k ≤ column_kind_count → get_or at k 0 ≡ start_from c column_sets 0 k) → Starts (column_boxes c) 0 at
   unfolding column_boxes
-  column-starts-are s = record {
-    long = length-take-le (column_kind_count + 1) at (omega (arith, s.0));
-    is = λ k h. get_or-take (column_kind_count + 1) at k 0 (omega arith) ∙ s.1 k h ∙ start-at c column_sets 0 k h;
-  }
+  column-starts-are s = record { long = s.0; is = λ k h. s.1 k h ∙ start-at c column_sets 0 k h }
 
   pub table-starts-are : (length at ≡ table_count + 1) × ((t : ℕ) → t ≤ table_count → get_or at t 0 ≡ start_from c table_sets 7 t) → Starts (table_boxes c) 7 at
   unfolding table_boxes

@@ -12,7 +12,7 @@ ghost use Rattle.tables.specs.Layout.{Counted};
 ghost use Rattle.places.specs.Numbers.{Numbered, InBox, Starts, slice_at};
 
 use duals::row_starts;
-use model::{COLUMN_KIND_COUNT, Counts};
+use model::Counts;
 use sums::{Box, Place};
 use tables::sets::{box_of, family_at, shape_of};
 use tables::starts::{column_box, column_starts, table_box, table_starts};
@@ -82,7 +82,7 @@ pub fn column_place(c: Counts, column: usize) -> Place
     ensures { Numbered (column_boxes c) column result }
 {
     let starts = column_starts(c);
-    place_in(&starts[..=COLUMN_KIND_COUNT], column, |k| column_box(c, k))
+    place_in(&starts, column, |k| column_box(c, k))
 }
 
 // The entry at a place of the data list; the counts stand before the tables.
