@@ -17,7 +17,8 @@ fn at(number: u32, place: usize) -> Code
     }
 }
 
-// The number and the place of a refusal, by the definitions' word for it. `Code::from(refusal)` would say less, and could stand only beside `Code`, in `model`.
+// The number and the place of a refusal, by the definitions' word for it. No `From`: both types are `model`'s, so it could stand in `model` alone, which holds
+// types and definitions and no function.
 #[tactic(auto, unfolding(model::specs::Calls::code_of))]
 pub fn code_of(refusal: Refusal) -> Code
     ensures { result ≡ code_of refusal }
@@ -42,7 +43,7 @@ pub fn code_of(refusal: Refusal) -> Code
     }
 }
 
-// What check and post answer.
+// What check and post answer. This and `certificate_code` are two: document 01 has two answers with a definition each, of two types.
 #[tactic(auto, unfolding(model::specs::Calls::answer_code))]
 pub fn answer_code(answer: Result<u64, Refusal>) -> Code
     ensures { result ≡ answer_code answer }

@@ -15,6 +15,7 @@ use tables::names::{
     FUEL, GEN_CAP, LINE_ANNUITY, LINE_LIMIT, MAX_NEW_CAP, MW_PER_LINE, TL, YEAR, ZONE,
 };
 
+// No `RangeInclusive` of the library: that is an iterator and no `Copy`, and could not stand in a fixed table.
 #[derive(Clone, Copy)]
 pub struct Range {
     pub least: u32,
@@ -44,7 +45,7 @@ const ZERO: Range = Range { least: 0, most: 0 };
 // In place of a range that depends on the indices: `range_at` does not read it.
 const BY_INDEX: Range = ZERO;
 
-// The range of each table whose entries have one range.
+// The range of each table whose entries have one range. A table of its own beside that of the index sets: the readers of `tables`, below this crate, need no ranges.
 const FIXED: [Range; TABLE_COUNT] = [
     PER_MILLE, // 0 return rate
     Range { least: 1, most: 20 }, // 1 weight
