@@ -24,7 +24,8 @@ pub struct Inputs<'a> {
     pub multipliers: &'a [i64],
 }
 
-// The words of the refusals, by number; there is no refusal 0.
+// The words of the refusals, by number; there is no refusal 0. They stand in the order of document 01's numbers, as `refusal_names` has them,
+// and the number is what the certify program prints: a `match` would name each refusal a second time beside `code_of`.
 const REFUSAL_NAMES: [&str; 17] = [
     "",
     "Shape",

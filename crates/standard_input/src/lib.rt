@@ -24,6 +24,7 @@ fn read_more<R: Read>(stdin: &mut R, input: &mut [u8], done: usize) -> io::Resul
 }
 
 // Reads until the input ends or the programs' buffer is full: how many bytes came. An input cut short by a failure is not answered.
+// Memory is fixed, so the buffer is the program's own and is lent, and the count says how much of it came.
 // No method of std stands for the loop: `read_to_end` needs a heap, and `read_exact` takes the input's end for a failure.
 pub fn read_input<R: Read>(stdin: &mut R, input: &mut [u8]) -> io::Result<usize>
     requires { length input.old ≡ input_bytes }

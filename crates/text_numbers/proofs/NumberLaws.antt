@@ -1,18 +1,18 @@
 -- Laws of the digits and numbers of a line. Assumes nothing.
 use mathlib.Core.Bool.{Bool, true, false, cond}
-use mathlib.Core.List.{List}
+use mathlib.Core.List.{List, [], ◌∷◌}
 use mathlib.Core.Logic.{⊎_elim}
 use mathlib.Core.Path.{◌≡◌, refl, sym, ap, ◌∙◌}
 use Prim.Native.Nat.{ℕ, zero, suc, ◌+◌, ◌*◌, ◌-◌, ◌^◌, ◌≤◌, ◌<◌}
-use native.Mathlib.Nat.{pow-suc, pow-le-pow_right, eq-or-lt_of_le, le_of_suc-le-suc}
+use native.Mathlib.Nat.{zero-add, pow-suc, pow-le-pow_right, eq-or-lt_of_le, le_of_suc-le-suc}
 use native.Mathlib.Numerals.{add-one}
 use native.Mathlib.Omega.{arith}
 use Rattle.std.proofs.lemmas.Bool.Decides.{nat_tests}
 use Rattle.std.specs.Prelude.{Option, Some, None}
 use lib.Dec.{eqb, ltb}
 use lib.IntN.{pos, negsuc}
-use lib.ListN.{length, get_or, take, drop, length-take}
-use Rattle.std.proofs.lemmas.List.{get_or-take, get_or-drop}
+use lib.ListN.{length, get_or, take, drop}
+use lib.Seq.{take_all}
 use mir.Syntax.{w64}
 use mir.Val.{to_z}
 use Rattle.text_numbers.specs.Numbers.{space, digit, with_digit, digits_at, number_at, signed}
@@ -55,11 +55,7 @@ number-below l at w = go (eqb (get_or l at 0) space)
 pub number-low : (l : List ℕ) (at w : ℕ) {v : ℕ} → number_at l at w ≡ Some v → v < 16 ^ w
 number-low l at w e = rw e at (number-below l at w)
 
--- What the code of `digits_at` finds
-
--- a digit of the part of the line that it reads
-pub digit-read : (l : List ℕ) (at w i : ℕ) → i < length (take (at + w - at) (drop at l)) → get_or (take (at + w - at) (drop at l)) i 0 ≡ get_or l (at + i) 0
-digit-read l at w i h = get_or-take (at + w - at) (drop at l) i 0 (omega (arith, h, length-take (at + w - at) (drop at l))) ∙ get_or-drop at l i 0
+-- What the code of `number_of` finds
 
 -- fifteen digits leave room for one more
 pub digits-low : (l : List ℕ) (at i v : ℕ) → i < 16 → digits_at l at i ≡ Some v → 16 * v + 15 < 2 ^ 64
@@ -98,6 +94,16 @@ number_same k l p w same =
     let here : p + 0 ≡ p = omega arith in
     let first : get_or k 0 0 ≡ get_or l p 0 = same 0 (omega arith) ∙ ap (λ (n : ℕ). get_or l n 0) here in
     rw (first, digits)
+
+-- the digits behind a space
+pub behind_space : (l : List ℕ) → get_or l 0 0 ≡ space → 1 ≤ length l
+    → digits_at (take (length l - 1) (drop 1 l)) 0 (length (take (length l - 1) (drop 1 l))) ≡ number_at l 0 (length l - 1)
+unfolding number_at
+behind_space (b ∷ l) e h =
+    let n : suc (length l) - 1 ≡ length l = omega arith in
+    let all : take (length l) l ≡ l = take_all (length l) l (omega arith) in
+    rw (n, e, all) (digits_same l (space ∷ l) 0 1 (length l) (λ j h. let e : 1 + j ≡ suc j = omega arith in rw (zero-add, e) refl))
+behind_space [] e h = absurd (omega arith)
 
 -- One byte that is no digit
 

@@ -1,7 +1,7 @@
 // Numbers in capital hexadecimal, as the lines of the certify program's text input have them.
 #![tactic(auto)]
 
-ghost use Rattle.std.specs.Prelude.{◌≡◌, ◌+◌, ◌≤◌, length};
+ghost use Rattle.std.specs.Prelude.{◌≡◌, ◌-◌, ◌≤◌, length};
 ghost use Rattle.text_numbers.specs.Numbers.{digit, digits_at, number_at};
 
 // The value of a capital hexadecimal digit. By hand: `to_digit` and `from_str_radix` of the library take small letters too.
@@ -16,26 +16,26 @@ fn digit_of(b: u8) -> Option<u64>
     }
 }
 
-// The number that `width` digits write.
-fn digits_at(line: &[u8], at: usize, width: usize) -> Option<u64>
-    requires { (at + width ≤ length line.now) × (width ≤ 16) }
-    ensures { result ≡ digits_at line.now at width }
+// The number that the digits write.
+fn number_of(digits: &[u8]) -> Option<u64>
+    requires { length digits.now ≤ 16 }
+    ensures { result ≡ digits_at digits.now 0 (length digits.now) }
 {
     let mut v = 0;
-    for &b in &line[at..at + width] {
+    for &b in digits {
         v = 16 * v + digit_of(b)?;
     }
     Some(v)
 }
 
-// A space and `width` digits.
-#[tactic(auto, using(std::proofs::lemmas::Bool::Decides::nat_tests), unfolding(crate::specs::Numbers::number_at))]
-pub fn number_at(line: &[u8], at: usize, width: usize) -> Option<u64>
-    requires { (at + 1 + width ≤ length line.now) × (width ≤ 16) }
-    ensures { result ≡ number_at line.now at width }
+// A space, and behind it a number's digits.
+#[tactic(auto, using(std::proofs::lemmas::Bool::Decides::nat_tests, crate::proofs::NumberLaws::behind_space), unfolding(crate::specs::Numbers::number_at))]
+pub fn number_in(number: &[u8]) -> Option<u64>
+    requires { length number.now ≤ 17 }
+    ensures { result ≡ number_at number.now 0 (length number.now - 1) }
 {
-    if line[at] != b' ' {
+    let [b' ', digits @ ..] = number else {
         return None;
-    }
-    digits_at(line, at + 1, width)
+    };
+    number_of(digits)
 }

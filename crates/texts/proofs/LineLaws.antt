@@ -67,6 +67,10 @@ no_number_left {w = w} {n = n} {i = i} c inside short = elim (cases_lt i n) [
 pub next-place : (i w : ℕ) → word_length + (i + 1) * (w + 1) ≡ word_length + i * (w + 1) + (w + 1)
 next-place i w = rw (add-one i) (omega arith)
 
+-- the digits of the bytes of a number, which has a space before them
+pub digits-behind : {size w : ℕ} → size ≡ w + 1 → size - 1 ≡ w
+digits-behind e = omega arith
+
 -- a part of a line: so many of its bytes from a place on
 pub record PartOf (l : List ℕ) (at size : ℕ) (part rest : List ℕ) : Type 0 where
   pub bytes : (j : ℕ) → j < size → get_or part j 0 ≡ get_or l (at + j) 0

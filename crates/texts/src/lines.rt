@@ -6,7 +6,7 @@ ghost use Rattle.text_numbers.specs.Numbers.{signed};
 ghost use Rattle.texts.specs.Format.{plain, digits, dual_digits, word_of, count, join};
 
 use arrayvec::ArrayVec;
-use text_numbers::number_at;
+use text_numbers::number_in;
 
 // The word that a line opens with.
 #[derive(Clone, Copy, Debug, PartialEq, Eq)]
@@ -109,7 +109,7 @@ pub(crate) fn join<T: FromDigits, const MOST: usize>(
         return None; // more numbers than may come, a second SCAL line among them
     }
     for number in line[WORD_LENGTH..].chunks_exact(width + 1) {
-        let v = number_at(number, 0, width)?;
+        let v = number_in(number)?;
         numbers.push(T::from_digits(v));
     }
     Some(())

@@ -14,7 +14,7 @@ use denote.Bor.{Bor}
 use Rattle.std.specs.Fmt.{decimal as shown}
 use Rattle.std.proofs.lemmas.Fmt.{decimal_by_steps}
 use Rattle.std.proofs.Math.Nat.{min_comm}
-use Rattle.std.proofs.lemmas.List.{get_or-map, length-map, take_min}
+use Rattle.std.proofs.lemmas.List.{get_or_past, get_or-map, length-map, take_min}
 use Rattle.writer.specs.Decimal.{digit, digits_within, decimal}
 use Rattle.writer.specs.Writing.{added}
 
@@ -117,12 +117,7 @@ module _ {A : Type 0} (lists : List (Bor (List A))) (k : ℕ) where
   list-found {list} h e = get_or-map (λ (lent : Bor (List A)). lent.now) lists k list [] (true-ltb k (length lists) h) ∙ ap (λ (lent : Bor (List A)). lent.now) (sym e)
 
   pub list-past : false ≡ ltb k (length lists) → get_or (map (λ (lent : Bor (List A)). lent.now) lists) k [] ≡ []
-  list-past h = past (map (λ (lent : Bor (List A)). lent.now) lists) k (rw length-map (false-ltb k (length lists) h))
-    where
-      past : (l : List (List A)) (i : ℕ) → length l ≤ i → get_or l i [] ≡ []
-      past [] i h = refl
-      past (x ∷ l) zero h = absurd (omega arith)
-      past (x ∷ l) (suc i) h = past l i (omega arith)
+  list-past h = get_or_past (map (λ (lent : Bor (List A)). lent.now) lists) k [] (rw length-map (false-ltb k (length lists) h))
 
 -- words that there is room for
 pub added-fitting : (size : ℕ) (l p : List ℕ) → length l + length p ≤ size → added size l p ≡ l ++ p

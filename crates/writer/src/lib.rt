@@ -26,6 +26,7 @@ impl<const SIZE: usize> Model for Line<SIZE> {
     ghost view = { λ l. l.bytes.items };
 }
 
+// Words are added by `say` and not by `write!`: that promises the bytes only where it answers Ok, and no contract says that it does.
 impl<const SIZE: usize> Line<SIZE> {
     // A line of which nothing is written.
     pub fn new() -> Self

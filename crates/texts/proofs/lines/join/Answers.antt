@@ -3,7 +3,7 @@ use native.Mathlib.Omega.{arith}
 use Prim.Native.Nat.{◌+◌}
 use Rattle.std.proofs.lemmas.List.{length-drop}
 use borrow.Author.Rules.{rules}
-use Rattle.texts.proofs.LineLaws.{counted, number-left, no_number_left, part-of, behind_word, next-place, join-none, join-over, join_reads, join-stops, joined_none, joined_more}
+use Rattle.texts.proofs.LineLaws.{counted, number-left, no_number_left, part-of, behind_word, digits-behind, next-place, join-none, join-over, join_reads, join-stops, joined_none, joined_more}
 use Rattle.text_numbers.proofs.NumberLaws.{number-low, number_same}
 use Rattle.texts.proofs.lines.join.Goals as goal
 
@@ -44,12 +44,14 @@ returns-in_err-v g c =
     let i = c.loop-number.invariant in
     let step = c.in-Some.ensures.steps.1 in
     let part = part-of _ _ _ _ _ _ i.left step.0 (step.1 ∙ i.size) i.inside in
-    let none = rw c.DIGITS-width.ensures at (sym c.number_at.ensures ∙ c.in_err-v.was) in
+    let none = rw (digits-behind (step.1 ∙ i.size)) at (sym c.number_in.ensures ∙ c.in_err-v.was) in
     rw c.from_residual-in_err-v.ensures
     (join-stops _ _ _ _ _ _ whole n.some (omega (arith, c.remaining_capacity.ensures, c.if-remaining_capacity-count.false)) _ (number-left (counted _ _ _ whole (search rules)) part.inside) (sym (number_same _ _ _ _ part.bytes) ∙ none))
 
 pub from_digits-requires : goal.from_digits-requires
-from_digits-requires g c = number-low c.in-Some.number.now _ _ (rw c.DIGITS-width.ensures at (sym c.number_at.ensures ∙ c.in_ok-v.was))
+from_digits-requires g c =
+    let size = digits-behind (c.in-Some.ensures.steps.1.1 ∙ c.loop-number.invariant.size) in
+    number-low c.in-Some.number.now _ _ (rw size at (sym c.number_in.ensures ∙ c.in_ok-v.was))
 
 pub push-requires : goal.push-requires
 push-requires g c =
@@ -64,7 +66,7 @@ loop-number-preserved g c =
     let i = c.loop-number.invariant in
     let steps = c.in-Some.ensures.steps in
     let part = part-of _ _ _ _ _ _ i.left steps.1.0 (steps.1.1 ∙ i.size) i.inside in
-    let number = rw c.DIGITS-width.ensures at (sym c.number_at.ensures ∙ c.in_ok-v.was) in
+    let number = rw (digits-behind (steps.1.1 ∙ i.size)) at (sym c.number_in.ensures ∙ c.in_ok-v.was) in
     let p = c.push.ensures in
     record {
       goes = rw steps.0 i.goes;

@@ -1,9 +1,10 @@
 use mathlib.Core.Path.{refl, sym, ◌∙◌}
+use native.Mathlib.Nat.{zero-add}
 use native.Mathlib.Omega.{arith}
 use borrow.Author.Rules.{rules}
 use Rattle.text_numbers.specs.Numbers.{digits_at}
-use Rattle.text_numbers.proofs.NumberLaws.{digit-read, digits-low, digit-low, digits_more, digits-stop}
-use Rattle.text_numbers.proofs.digits_at.Goals as goal
+use Rattle.text_numbers.proofs.NumberLaws.{digits-low, digit-low, digits_more, digits-stop}
+use Rattle.text_numbers.proofs.number_of.Goals as goal
 
 pub loop-b-init : goal.loop-b-init
 unfolding digits_at
@@ -15,8 +16,7 @@ overflow_mul-v c =
 
 pub returns-in_err-v : goal.returns-in_err-v
 returns-in_err-v c =
-    let part = digit-read c.args.line.now c.args.at c.args.width c.loop-b.b-index (search rules) in
-    c.from_residual.ensures ∙ digits-stop _ _ _ _ (search rules) (rw part at (sym c.digit_of.ensures ∙ c.in_err-v.was))
+    c.from_residual.ensures ∙ digits-stop c.args.digits.now 0 c.loop-b.b-index _ (search rules) (rw zero-add (sym c.digit_of.ensures ∙ c.in_err-v.was))
 
 pub overflow_add-v : goal.overflow_add-v
 overflow_add-v c =
@@ -24,5 +24,4 @@ overflow_add-v c =
 
 pub loop-b-preserved : goal.loop-b-preserved
 loop-b-preserved c =
-    let part = digit-read c.args.line.now c.args.at c.args.width c.loop-b.b-index (search rules) in
-    digits_more _ _ _ _ _ c.loop-b.invariant (rw part at (sym c.digit_of.ensures ∙ c.in_ok-v.was))
+    digits_more c.args.digits.now 0 c.loop-b.b-index _ c.in_ok-v.field-0 c.loop-b.invariant (rw zero-add (sym c.digit_of.ensures ∙ c.in_ok-v.was))
