@@ -1,5 +1,5 @@
 // The multipliers that a caller hands to certify: the two parts of each, a row's multiplier by family and index, and refusals 9 and 10.
-// Signed numbers are met in `parts_of` and `multiplier_in` only.
+// Signed numbers are met in `From<i64> for Multiplier` and `multiplier_in` only.
 #![tactic(auto)]
 
 ghost use Rattle.std.specs.Prelude.{◌≡◌, ◌&&◌, ℕ, ◌+◌, ◌≤◌, ◌<◌, leb, pos, length, get_or};
@@ -52,15 +52,18 @@ impl Multiplier {
     }
 }
 
-#[tactic(auto, using(crate::proofs::Laws::below_zero, crate::proofs::Laws::not_below_zero))]
-pub fn parts_of(m: i64) -> Multiplier
-    ensures { result ≡ multiplier_of m }
-{
-    let size = m.unsigned_abs();
-    if m < 0 {
-        return Multiplier { up: 0, down: size };
+// The two parts of a signed number.
+impl From<i64> for Multiplier {
+    ghost from_gives = { λ m r. r ≡ multiplier_of m };
+
+    #[tactic(auto, using(crate::proofs::Laws::below_zero, crate::proofs::Laws::not_below_zero))]
+    fn from(m: i64) -> Multiplier {
+        let size = m.unsigned_abs();
+        if m < 0 {
+            return Multiplier { up: 0, down: size };
+        }
+        Multiplier { up: size, down: 0 }
     }
-    Multiplier { up: size, down: 0 }
 }
 
 // The multiplier of a row's number.
@@ -68,7 +71,7 @@ pub fn multiplier_in(ms: &[i64], row: usize) -> Multiplier
     requires { row < length ms.now }
     ensures { result ≡ multiplier_of (get_or ms.now row (pos 0)) }
 {
-    parts_of(ms[row])
+    Multiplier::from(ms[row])
 }
 
 // The row number at which each family starts, and after the last of them the number of rows.
@@ -185,23 +188,21 @@ fn in_range(m: Multiplier, equal: bool) -> bool
     m.up <= MOST_MULTIPLIER && m.down <= most_below(equal)
 }
 
-// Refusal 10: every multiplier in the order of the rows, left by label at the first that is out of range, as document 01's walk over the rows is.
+// Refusal 10: every multiplier in the order of the rows, left at the first that is out of range.
 fn test_ranges(multipliers: &Multipliers) -> Result<(), Refusal>
     ensures { (D : Data) → D.counts ≡ multipliers.now.counts → result ≡ outcome (multipliers_fault D multipliers.now.list.now) }
 {
-    let mut answer = Ok(());
-    'walk: for k in 0..FAMILY_COUNT {
+    for k in 0..FAMILY_COUNT {
         let f = family_at(k);
         let equal = f.equal;
         for row in multipliers.starts[k]..multipliers.starts[k + 1] {
             let m = multiplier_in(multipliers.list, row);
             if !in_range(m, equal) {
-                answer = Err(Refusal::Multiplier(row));
-                break 'walk;
+                return Err(Refusal::Multiplier(row));
             }
         }
     }
-    answer
+    Ok(())
 }
 
 // Refusals 9 and 10.
