@@ -1,7 +1,7 @@
 // The range of each entry of the data, both ends included.
 #![tactic(auto)]
 
-ghost use Rattle.std.specs.Prelude.{◌≡◌, ℕ, ◌+◌, ◌-◌, ◌≤◌, ◌<◌, eqb, get_or};
+ghost use Rattle.std.specs.Prelude.{◌≡◌, ℕ, ◌+◌, ◌-◌, ◌≤◌, ◌<◌, get_or};
 ghost use Rattle.sums.specs.Index.{box_of};
 ghost use Rattle.model.specs.Counts.{sets};
 ghost use Rattle.model.specs.Data.{within, either, ◌to◌, most32, table_count, existing};
@@ -130,20 +130,11 @@ fn below(n: usize) -> Range
     }
 }
 
-// Any number for an existing plant, 0 for a candidate; `of_candidate` turns it round. One function for both would be told by a flag which of them is meant.
-fn of_existing(tables: &Tables, g: usize) -> Range
-    requires { g < tables.now.counts.plants }
-    ensures { ranged result ≡ either (existing (data_of tables.now) g) (0 to most32) (0 to 0) }
+// Any number where it is free, else 0. The flag is a fact of the entry, told by the arm that names its table, and no switch between two ways of work.
+fn any_where(free: bool) -> Range
+    ensures { ranged result ≡ either free (0 to most32) (0 to 0) }
 {
-    if tables.is_existing(g) { ANY } else { ZERO }
-}
-
-// Any number for a candidate, 0 for an existing plant.
-fn of_candidate(tables: &Tables, g: usize) -> Range
-    requires { g < tables.now.counts.plants }
-    ensures { ranged result ≡ either (existing (data_of tables.now) g) (0 to 0) (0 to most32) }
-{
-    if tables.is_existing(g) { ZERO } else { ANY }
+    if free { ANY } else { ZERO }
 }
 
 // An existing plant retires in the second year or later, at the latest after the last; a candidate comes in one of the years.
@@ -164,13 +155,6 @@ fn plant_year(tables: &Tables, g: usize) -> Range
     }
 }
 
-// Any number between two zones, 0 from a zone to itself.
-fn between_zones(z: usize, w: usize) -> Range
-    ensures { ranged result ≡ either (eqb z w) (0 to 0) (0 to most32) }
-{
-    if z == w { ZERO } else { ANY }
-}
-
 // The range of table `t` at first index `i` and second index `j`. No range depends on the year or the slice.
 pub fn range_at(tables: &Tables, t: usize, i: usize, j: usize) -> Range
     requires { (t < table_count) × (i < (box_of (sets tables.now.counts) (get_or table_sets t 0)).firsts) }
@@ -179,14 +163,14 @@ pub fn range_at(tables: &Tables, t: usize, i: usize, j: usize) -> Range
     match t {
         ZONE => below(tables.counts.zones),
         FUEL => below(tables.counts.fuels),
-        GEN_CAP => of_existing(tables, i),
+        GEN_CAP => any_where(tables.is_existing(i)),
         YEAR => plant_year(tables, i),
-        MAX_NEW_CAP => of_candidate(tables, i),
+        MAX_NEW_CAP => any_where(!tables.is_existing(i)),
         // An arm for each of the four, as each of the others has its own.
-        TL => between_zones(i, j),
-        LINE_LIMIT => between_zones(i, j),
-        MW_PER_LINE => between_zones(i, j),
-        LINE_ANNUITY => between_zones(i, j),
+        TL => any_where(i != j),
+        LINE_LIMIT => any_where(i != j),
+        MW_PER_LINE => any_where(i != j),
+        LINE_ANNUITY => any_where(i != j),
         _ => fixed_range(t),
     }
 }
