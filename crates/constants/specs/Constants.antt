@@ -14,6 +14,13 @@ constant_of D r = record { adds = (equation D r).plus; takes = (equation D r).mi
 abbrev pub no_constant : Constant
 no_constant = record { adds = 0; takes = 0 }
 
+-- a row's constant that only adds, and one that only takes off
+abbrev pub adding : ℕ → Constant
+adding n = record { adds = n; takes = 0 }
+
+abbrev pub taking : ℕ → Constant
+taking n = record { adds = 0; takes = n }
+
 -- whether rows of a family, counted from 0, have a constant
 abbrev pub constant_families : List Bool
 constant_families =

@@ -4,13 +4,29 @@
 pub mod families;
 
 ghost use Rattle.std.specs.Prelude.{◌≡◌};
-ghost use Rattle.constants.specs.Constants.{netted_of};
+ghost use Rattle.constants.specs.Constants.{adding, taking, netted_of};
 
 // What a row's constant adds and what it takes off.
 #[derive(Clone, Copy)]
 pub struct Constant {
     pub adds: u64,
     pub takes: u64,
+}
+
+impl Constant {
+    // A constant that adds to a row.
+    pub fn adding(n: u64) -> Constant
+        ensures { result ≡ adding n }
+    {
+        Constant { adds: n, takes: 0 }
+    }
+
+    // A constant that takes off a row.
+    pub fn taking(n: u64) -> Constant
+        ensures { result ≡ taking n }
+    {
+        Constant { adds: 0, takes: n }
+    }
 }
 
 // Of a row that has none.

@@ -24,10 +24,7 @@ pub fn stock_constant(tables: &Tables, y: usize, g: usize) -> Constant
     if !tables.is_existing(g) {
         return NONE;
     }
-    Constant {
-        adds: 0,
-        takes: tables.by_plant(GEN_CAP, g),
-    }
+    Constant::taking(tables.by_plant(GEN_CAP, g))
 }
 
 // 15, candidate: MaxNewCap
@@ -38,10 +35,7 @@ pub fn new_capacity_constant(tables: &Tables, g: usize) -> Constant
     if tables.is_existing(g) {
         return NONE;
     }
-    Constant {
-        adds: tables.by_plant(MAX_NEW_CAP, g),
-        takes: 0,
-    }
+    Constant::adding(tables.by_plant(MAX_NEW_CAP, g))
 }
 
 // 16, candidate: BuildLimit·V
@@ -54,10 +48,7 @@ pub fn yearly_build_constant(tables: &Tables, y: usize, g: usize) -> Constant
     }
     let limit = tables.by_year(BUILD_LIMIT, y);
     let weight = tables.by_year(WEIGHT, y);
-    Constant {
-        adds: limit * weight,
-        takes: 0,
-    }
+    Constant::adding(limit * weight)
 }
 
 // 17: 1000·MaxFuel, the same in every zone
@@ -65,20 +56,14 @@ pub fn fuel_use_constant(tables: &Tables, y: usize, f: usize) -> Constant
     requires { (y < tables.now.counts.years) × (f < tables.now.counts.fuels) }
     ensures { result ≡ constant_of (data_of tables.now) (row 17 y 0 f 0) }
 {
-    Constant {
-        adds: 1000 * tables.by_year_fuel(MAX_FUEL, y, f),
-        takes: 0,
-    }
+    Constant::adding(1000 * tables.by_year_fuel(MAX_FUEL, y, f))
 }
 
 // 18: 10⁹·MaxCapital
 pub fn capital_constant(tables: &Tables) -> Constant
     ensures { result ≡ constant_of (data_of tables.now) (row 18 0 0 0 0) }
 {
-    Constant {
-        adds: 1000000000 * tables.single(MAX_CAPITAL),
-        takes: 0,
-    }
+    Constant::adding(1000000000 * tables.single(MAX_CAPITAL))
 }
 
 // 19: 1000·zone cap
@@ -86,10 +71,7 @@ pub fn zone_emission_constant(tables: &Tables, y: usize, z: usize) -> Constant
     requires { (y < tables.now.counts.years) × (z < tables.now.counts.zones) }
     ensures { result ≡ constant_of (data_of tables.now) (row 19 y z 0 0) }
 {
-    Constant {
-        adds: 1000 * tables.by_year_zone(ZONE_CAP, y, z),
-        takes: 0,
-    }
+    Constant::adding(1000 * tables.by_year_zone(ZONE_CAP, y, z))
 }
 
 // 20: 1000·system cap
@@ -97,10 +79,7 @@ pub fn system_emission_constant(tables: &Tables, y: usize) -> Constant
     requires { y < tables.now.counts.years }
     ensures { result ≡ constant_of (data_of tables.now) (row 20 y 0 0 0) }
 {
-    Constant {
-        adds: 1000 * tables.by_year(SYSTEM_CAP, y),
-        takes: 0,
-    }
+    Constant::adding(1000 * tables.by_year(SYSTEM_CAP, y))
 }
 
 // 25, battery: energy capacity, the same in every year and slice
@@ -111,8 +90,5 @@ pub fn level_limit_constant(tables: &Tables, g: usize) -> Constant
     if !tables.is_battery(g) {
         return NONE;
     }
-    Constant {
-        adds: tables.by_plant(ENERGY_CAPACITY, g),
-        takes: 0,
-    }
+    Constant::adding(tables.by_plant(ENERGY_CAPACITY, g))
 }

@@ -6,8 +6,8 @@ use native.Mathlib.Nat.{mul_comm, mul_assoc, mul_left_comm, mul-pos}
 use native.Mathlib.Omega.{arith}
 use lib.ListN.{length, get_or, take, drop, length-take, length-drop}
 use lib.Seq.{get_or-take, get_or-drop}
-use Rattle.capped.specs.Cap.{cap, times, times_both, Sum}
-use Rattle.capped.proofs.Laws.{times-cap, times-both}
+use Rattle.capped.specs.Cap.{cap, times_both, Sum}
+use Rattle.capped.proofs.Laws.{times-both}
 use Rattle.sums.specs.Sum.{sum}
 use Rattle.sums.specs.Index.{Index, index, box_of, inside}
 use Rattle.sums.proofs.Lists.{Alls, at_place}
@@ -23,6 +23,7 @@ use Rattle.tables.specs.Lists.{entry_of}
 use Rattle.tables.proofs.Laws.{column_place, column-below, column-is}
 use Rattle.unit_prices.specs.Prices.{Hourly, gen, reserve, unmet, surplus, spinshort, set_of, hour_price}
 use Rattle.hour_costs.specs.Costs.{Hours, slices_cost, hourly_cost, hours_cost}
+use Rattle.column_prices.specs.Factors.{unit_price}
 use Rattle.column_prices.proofs.Laws.{by-hour}
 
 -- The tables priced by the hour
@@ -40,10 +41,8 @@ module _ (D : Data) (c : Counts) (x : Index → ℕ) {t : ℕ} (h : Hourly t) (y
       sym (sum-scale (slices_of c) per_hour (λ s. duration D s * get_or part s 0))
       ∙ sum-cong (slices_of c) (λ s l. rw (e s l, (by-hour h).priced D y i s) (simp (mul_comm, mul_assoc, mul_left_comm)))
 
-  pub hours-priced : {p q m r : Sum} {w : ℕ} → w ≡ year_weight D y → p ≡ cap (hour_price D t y i) → q ≡ times p w → m ≡ cap hours → r ≡ times_both q m
-      → r ≡ cap (slices_cost D c x t y i)
-  hours-priced ew ep eq em er =
-      er ∙ rw (eq, ep, ew, em, times-cap (hour_price D t y i) (year_weight D y)) (times-both per_hour hours ∙ ap cap hours-cost)
+  pub hours-priced : {p m r : Sum} → p ≡ cap (unit_price D t y i 0) → m ≡ cap hours → r ≡ times_both p m → r ≡ cap (slices_cost D c x t y i)
+  hours-priced ep em er = er ∙ rw (ep, em, (by-hour h).unit D y i 0) (times-both per_hour hours ∙ ap cap hours-cost)
 
 -- The part of the plan that holds the slices of plant or zone i in year y
 module _ (plan : Plan) {t y i : ℕ} (m : Hours plan.counts t y i) where

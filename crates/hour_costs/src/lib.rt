@@ -12,13 +12,12 @@ ghost use Rattle.hour_costs.specs.Costs.{Hours, slices_cost, hourly_cost, hours_
 ghost use Rattle.tables.specs.Lists.{data_of, entry_of};
 
 use capped::Sum;
+use column_prices::unit_price;
 use tables::lists::{Case, Entries, Plan, Tables, number_at};
 use tables::names::{DURATION, GEN, RESERVE, SPINSHORT, SURPLUS, UNMET};
 use tables::sets::{inside_of, slices_of};
 use tables::starts::{column_box, column_set};
-use terms::plants::year_weight;
 use terms::totals::total;
-use unit_prices::hour_price;
 
 // The slices of plant or zone i in year y: a part of the plan.
 #[tactic(auto, using(column_prices::proofs::Laws::column_laws))]
@@ -49,8 +48,7 @@ fn slices_cost(case: &Case, t: usize, y: usize, i: usize) -> Sum
     requires { Hours case.now.plan.counts t y i }
     ensures { result ≡ cap (slices_cost (data_of case.now.tables) case.now.plan.counts (entry_of case.now.plan) t y i) }
 {
-    let share = year_weight(&case.tables, y);
-    let price = capped::scale(hour_price(&case.tables, t, y, i), share);
+    let price = unit_price(&case.tables, t, y, i, 0);
     let hours = weighted_hours(&case.tables, slices_at(&case.plan, t, y, i));
     capped::multiply(price, hours)
 }

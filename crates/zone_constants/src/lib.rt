@@ -40,10 +40,7 @@ pub fn balance_constant(tested: &TestedTables, y: usize, z: usize, s: usize) -> 
 {
     let rates = rates_of(tested, y, z);
     let demand = tested.tables.by_year_zone_slice(DEMAND, y, z, s);
-    Constant {
-        adds: 0,
-        takes: demand * rates.ee,
-    }
+    Constant::taking(demand * rates.ee)
 }
 
 // 2: TL
@@ -51,10 +48,7 @@ pub fn transfer_constant(tables: &Tables, y: usize, z: usize, w: usize, s: usize
     requires { (y < tables.now.counts.years) × ((z < tables.now.counts.zones) × ((w < tables.now.counts.zones) × (s < slices_of tables.now.counts))) }
     ensures { result ≡ constant_of (data_of tables.now) (row 2 y z w s) }
 {
-    Constant {
-        adds: tables.by_link_season(TL, y, z, w, season_of(tables.counts, s)),
-        takes: 0,
-    }
+    Constant::adding(tables.by_link_season(TL, y, z, w, season_of(tables.counts, s)))
 }
 
 // 3: 1000·Σ TL[z2,z] − 1000·SRes
@@ -88,8 +82,5 @@ pub fn new_lines_constant(tables: &Tables, z: usize, w: usize) -> Constant
     requires { (z < tables.now.counts.zones) × (w < tables.now.counts.zones) }
     ensures { result ≡ constant_of (data_of tables.now) (row 27 0 z w 0) }
 {
-    Constant {
-        adds: tables.by_pair(LINE_LIMIT, z, w),
-        takes: 0,
-    }
+    Constant::adding(tables.by_pair(LINE_LIMIT, z, w))
 }
