@@ -1,8 +1,8 @@
 // A whole text, line by line.
 #![tactic(auto)]
 
-ghost use Rattle.std.specs.Prelude.{◌≡◌, ◌≢◌, ℕ, List, [], ◌∷◌, ◌++◌, IfSome, IfNone};
-ghost use Rattle.texts.specs.Format.{line_feed, text_of};
+ghost use Rattle.std.specs.Prelude.{◌≡◌};
+ghost use Rattle.texts.specs.Format.{text_of};
 ghost use Rattle.text_reader.specs.Reading.{text_in};
 
 use texts::Numbers;
@@ -13,17 +13,6 @@ pub struct Frame {
     pub line: usize,
 }
 
-// A line without its line feed; none where it has none, as the last line of a text may.
-fn without_feed(bytes: &[u8]) -> Option<&[u8]>
-    ensures ended { IfSome result (λ line. bytes.now ≡ line.now ++ line_feed ∷ []) }
-    ensures unended { IfNone result ((line : List ℕ) → bytes.now ≢ line ++ line_feed ∷ []) }
-{
-    match bytes.split_last()? {
-        (&b'\n', line) => Some(line),
-        _ => None,
-    }
-}
-
 // The numbers of all lines.
 pub fn read_text(text: &[u8]) -> Result<Numbers, Frame>
     ensures { text_in result ≡ text_of text.now }
@@ -31,7 +20,7 @@ pub fn read_text(text: &[u8]) -> Result<Numbers, Frame>
     let mut numbers = Numbers::new();
     for (before, bytes) in text.split_inclusive(|&b| b == b'\n').enumerate() {
         let frame = Frame { line: before + 1 };
-        let line = without_feed(bytes).ok_or(frame)?;
+        let line = bytes.strip_suffix(b"\n").ok_or(frame)?;
         numbers.read_line(line).ok_or(frame)?;
     }
     Ok(numbers)
