@@ -64,7 +64,9 @@ impl Pair {
 
     // The term of row y, i, j, s of family k, in which the column has the coefficient a. Inlined at each use, with `Multipliers::at`, so that the family is
     // a constant there: without the hints the walk over the columns took half as long again.
-    // Family and indices are no `Place`, here and in the three methods below: written out as one, each row of a column would take eleven lines for its one.
+    // Family and indices are no `Place`, here and in the three methods below: the document writes a row's family and indices in one line, as `index` of the
+    // definitions takes them. With a constructor of a place each line would have one call more and say the same.
+    // Two methods, `add_row` and `take_row`: the method's name is the sign of the term on the page. A sign handed in would be a switch.
     #[inline(always)]
     pub fn add_row(
         self,

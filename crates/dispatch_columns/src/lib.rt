@@ -1,4 +1,6 @@
 // The columns gen and reserve.
+// An index is asked below its count where it is handed in: a struct of a plant's indices would be made at each call and hold the same fact,
+// and the columns would no longer name their indices as the document does.
 #![tactic(auto)]
 
 ghost use Rattle.std.specs.Prelude.{◌≡◌, ◌<◌};

@@ -55,8 +55,8 @@ fn walked_box(multipliers: &Multipliers, k: usize) -> Box
     }
 }
 
-// The terms m·k of all rows: those above zero and those below, summed apart. The nest of loops is the index set of a family written out: `Pair::total` knows
-// terms of coefficients only, and the walk over the columns is left by label, so a closure over the members of a set would serve this walk alone.
+// The terms m·k of all rows: those above zero and those below, summed apart. The nest of loops is the index set of a family written out: `test_rows` and
+// `test_columns` find a year's parts and a unit's price outside the slices, so an iterator of all places would serve this walk alone.
 pub fn constant_terms(pricing: &Pricing) -> Pair
     ensures { result ≡ terms_of (data_of pricing.now.tested.tables.now) pricing.now.multipliers.list.now }
 {

@@ -29,8 +29,8 @@ fn test_column(pricing: &Pricing, p: Place, unit: Sum, column: usize) -> Result<
     verdict(sums, price, column)
 }
 
-// Refusals 11 and 12. The price of a unit is found before the slices, since it does not depend on them. The nest of loops is a labelled walk, as document 01
-// has the one over the rows: the first column at fault leaves it whole, with its number, so the number is counted beside the indices.
+// Refusals 11 and 12. The price of a unit is found before the slices, since it does not depend on them.
+// The same form as `test_rows`, which document 01 names: one reading and the same laws (tables/proofs/Steps.antt) serve both.
 pub fn test_columns(pricing: &Pricing) -> Result<(), Refusal>
     ensures { result ≡ outcome (columns_fault (data_of pricing.now.tested.tables.now) pricing.now.multipliers.list.now) }
 {
