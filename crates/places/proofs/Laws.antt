@@ -15,7 +15,7 @@ use lib.Seq.{get_or-take, length-take-le}
 use Rattle.std.proofs.lemmas.List.Sorted.{IsNonDecreasingBy-from_default}
 use Rattle.sums.specs.declared.Box.{Box}
 use Rattle.sums.specs.Sum.{sum}
-use Rattle.sums.specs.Index.{box, box_of, volume, inside, start, count, number, Member, index_of}
+use Rattle.sums.specs.Index.{box, box_of, volume, start, count}
 use Rattle.sums.proofs.Sums.{sum-one-more, sum-prefix}
 use Rattle.model.specs.declared.Counts.{Counts}
 use Rattle.model.specs.declared.Family.{Family}
@@ -26,7 +26,6 @@ use Rattle.model.specs.Columns.{column_sets, column_boxes, column_kind_count}
 use Rattle.model.specs.Families.{family, families, family_of, row_boxes, shape_of, family_count}
 use Rattle.tables.specs.Layout.{table_sets, start_from}
 use Rattle.tables.proofs.Laws.{get_or-map-in, box-at, start-at}
-use Rattle.sums.specs.declared.Place.{Place}
 use Rattle.places.specs.Numbers.{InBox, Starts, slice_at, SlicesBack}
 
 -- The kind that holds a number, as the point that parts the starts by it
