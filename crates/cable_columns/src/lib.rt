@@ -14,7 +14,6 @@ ghost use Rattle.tables.specs.Lists.{data_of};
 use column_terms::Pair;
 use duals::{Multipliers, Pricing};
 use tables::families::{LINE_BALANCE, LINES_BOTH_WAYS, NEW_LINES, SPINNING, TRANSFER};
-use tables::lists::Entries;
 use tables::names::MW_PER_LINE;
 use tables::sets::slices_of;
 

@@ -20,7 +20,7 @@ use tables::families::{
     AVAILABLE, CAPITAL, CHARGE_FALL, CHARGE_LIMIT, CHARGE_RISE, FIRM, FIXED, LIFE, LOADING,
     MINIMUM_LOAD, NEW_CAPACITY, OFFER, PROFILED, RAMP_DOWN, RAMP_UPWARD, STOCK, YEARLY_BUILD,
 };
-use tables::lists::{Entries, Tables};
+use tables::lists::Tables;
 use tables::names::{CAP_CREDIT, MIN_CAP_FAC, OVER_LOAD, PROFILE, RAMP_DN, RAMP_UP, RES_OFFER};
 use tables::sets::slices_of;
 

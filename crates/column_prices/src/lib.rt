@@ -11,7 +11,7 @@ ghost use Rattle.column_prices.specs.Factors.{unit_price, hours_of};
 ghost use Rattle.tables.specs.Lists.{data_of};
 
 use capped::Sum;
-use tables::lists::{Entries, Tables};
+use tables::lists::Tables;
 use tables::names::{
     BUILD, BUILT_LINES, CAP, CHARGE, DURATION, FIRMSHORT, LEVEL, RES_VOLL, RETIRE, TOTAL_LINES,
     TRANS,

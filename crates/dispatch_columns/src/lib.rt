@@ -19,7 +19,6 @@ use tables::families::{
     AVAILABLE, BALANCE, BATTERY_LEVEL, FUEL_USE, LOADING, MINIMUM_LOAD, OFFER, PROFILED, RAMP_DOWN,
     RAMP_UPWARD, SPINNING, SYSTEM_EMISSION, ZONE_EMISSION,
 };
-use tables::lists::Entries;
 use tables::names::{DURATION, EMISSION, ERR, HEAT_RATE};
 
 // The rows of the plant's zone: families 1, 3, 17, 19 and 20.

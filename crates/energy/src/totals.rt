@@ -11,7 +11,7 @@ ghost use Rattle.tables.specs.Lists.{data_of};
 use capped::Sum;
 use model::Counts;
 use parts::years::part_at;
-use tables::lists::{Entries, Tables};
+use tables::lists::Tables;
 use tables::names::{DURATION, EMISSION, FUEL, HEAT_RATE, ZONE};
 use terms::totals::total;
 

@@ -13,7 +13,7 @@ ghost use Rattle.tables.specs.Lists.{data_of, entry_of};
 
 use capped::Sum;
 use column_prices::unit_price;
-use tables::lists::{Case, Entries, Plan, Tables, number_at};
+use tables::lists::{Case, Plan, Tables, number_at};
 use tables::names::{DURATION, GEN, RESERVE, SPINSHORT, SURPLUS, UNMET};
 use tables::sets::{inside_of, slices_of};
 use tables::starts::{column_box, column_set};

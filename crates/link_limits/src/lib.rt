@@ -7,7 +7,7 @@ ghost use Rattle.model.specs.Data.{tl, most32};
 ghost use Rattle.link_limits.specs.Limits.{most_into};
 ghost use Rattle.tables.specs.Lists.{data_of};
 
-use tables::lists::{Entries, Tables};
+use tables::lists::Tables;
 use tables::names::TL;
 use terms::totals::exact_total;
 

@@ -16,7 +16,6 @@ use duals::Pricing;
 use tables::families::{
     BALANCE, BATTERY_LEVEL, CHARGE_FALL, CHARGE_LIMIT, CHARGE_RISE, LEVEL_LIMIT,
 };
-use tables::lists::Entries;
 use tables::names::EFFICIENCY;
 
 // Families 1 and 22; of a battery also 21, 23 and 24.

@@ -65,7 +65,8 @@ pub struct TestedTables<'a> {
     pub ghost tested: { entries_fault (read tables.now.list.now) ≡ fine },
 }
 
-// A list that is read by table and index: the data, or a plan, whose tables are its kinds of column.
+// A list that is read by table and index: the data, or a plan, whose tables are its kinds of column. Here are the readers of index sets that both have; what one
+// of them has alone stands below as a method of its own, since no call could read the other so.
 pub trait Entries {
     // The index sets of its tables, its counts, and the entry of a table at a year, a first index, a second index and a slice.
     ghost kinds: { List ℕ };
@@ -78,48 +79,6 @@ pub trait Entries {
     fn entry_in(&self, t: usize, k: usize, y: usize, i: usize, j: usize, s: usize) -> u64
         requires { EntryAt kinds (counts self.now) t k y i j s }
         ensures { (result ≡ entry self.now t y i j s) × (result ≤ most32) };
-
-    fn by_year(&self, t: usize, y: usize) -> u64
-        requires { EntryAt kinds (counts self.now) t [y] y 0 0 0 }
-        ensures { (result ≡ entry self.now t y 0 0 0) × (result ≤ most32) }
-    {
-        self.entry_in(t, BY_YEAR, y, 0, 0, 0)
-    }
-
-    fn by_slice(&self, t: usize, s: usize) -> u64
-        requires { EntryAt kinds (counts self.now) t [s] 0 0 0 s }
-        ensures { (result ≡ entry self.now t 0 0 0 s) × (result ≤ most32) }
-    {
-        self.entry_in(t, BY_SLICE, 0, 0, 0, s)
-    }
-
-    fn by_day(&self, t: usize, q: usize, d: usize) -> u64
-        requires { EntryAt kinds (counts self.now) t [qd] 0 q d 0 }
-        ensures { (result ≡ entry self.now t 0 q d 0) × (result ≤ most32) }
-    {
-        self.entry_in(t, BY_DAY, 0, q, d, 0)
-    }
-
-    fn by_plant(&self, t: usize, g: usize) -> u64
-        requires { EntryAt kinds (counts self.now) t [g] 0 g 0 0 }
-        ensures { (result ≡ entry self.now t 0 g 0 0) × (result ≤ most32) }
-    {
-        self.entry_in(t, BY_PLANT, 0, g, 0, 0)
-    }
-
-    fn by_plant_season(&self, t: usize, g: usize, q: usize) -> u64
-        requires { EntryAt kinds (counts self.now) t [gq] 0 g 0 q }
-        ensures { (result ≡ entry self.now t 0 g 0 q) × (result ≤ most32) }
-    {
-        self.entry_in(t, BY_PLANT_SEASON, 0, g, 0, q)
-    }
-
-    fn by_plant_slice(&self, t: usize, g: usize, s: usize) -> u64
-        requires { EntryAt kinds (counts self.now) t [gs] 0 g 0 s }
-        ensures { (result ≡ entry self.now t 0 g 0 s) × (result ≤ most32) }
-    {
-        self.entry_in(t, BY_PLANT_SLICE, 0, g, 0, s)
-    }
 
     fn by_year_plant(&self, t: usize, y: usize, g: usize) -> u64
         requires { EntryAt kinds (counts self.now) t [yg] y g 0 0 }
@@ -142,53 +101,11 @@ pub trait Entries {
         self.entry_in(t, BY_YEAR_ZONE, y, z, 0, 0)
     }
 
-    fn by_zone(&self, t: usize, z: usize) -> u64
-        requires { EntryAt kinds (counts self.now) t [z] 0 z 0 0 }
-        ensures { (result ≡ entry self.now t 0 z 0 0) × (result ≤ most32) }
-    {
-        self.entry_in(t, BY_ZONE, 0, z, 0, 0)
-    }
-
-    fn by_link_slice(&self, t: usize, y: usize, z: usize, w: usize, s: usize) -> u64
-        requires { EntryAt kinds (counts self.now) t [yzzs] y z w s }
-        ensures { (result ≡ entry self.now t y z w s) × (result ≤ most32) }
-    {
-        self.entry_in(t, BY_LINK_SLICE, y, z, w, s)
-    }
-
-    fn by_link_season(&self, t: usize, y: usize, z: usize, w: usize, q: usize) -> u64
-        requires { EntryAt kinds (counts self.now) t [yzzq] y z w q }
-        ensures { (result ≡ entry self.now t y z w q) × (result ≤ most32) }
-    {
-        self.entry_in(t, BY_LINK_SEASON, y, z, w, q)
-    }
-
     fn by_link(&self, t: usize, y: usize, z: usize, w: usize) -> u64
         requires { EntryAt kinds (counts self.now) t [yzz] y z w 0 }
         ensures { (result ≡ entry self.now t y z w 0) × (result ≤ most32) }
     {
         self.entry_in(t, BY_LINK, y, z, w, 0)
-    }
-
-    fn by_pair(&self, t: usize, z: usize, w: usize) -> u64
-        requires { EntryAt kinds (counts self.now) t [zz] 0 z w 0 }
-        ensures { (result ≡ entry self.now t 0 z w 0) × (result ≤ most32) }
-    {
-        self.entry_in(t, BY_PAIR, 0, z, w, 0)
-    }
-
-    fn by_year_fuel(&self, t: usize, y: usize, f: usize) -> u64
-        requires { EntryAt kinds (counts self.now) t [yf] y 0 f 0 }
-        ensures { (result ≡ entry self.now t y 0 f 0) × (result ≤ most32) }
-    {
-        self.entry_in(t, BY_YEAR_FUEL, y, 0, f, 0)
-    }
-
-    fn single(&self, t: usize) -> u64
-        requires { EntryAt kinds (counts self.now) t [one] 0 0 0 0 }
-        ensures { (result ≡ entry self.now t 0 0 0 0) × (result ≤ most32) }
-    {
-        self.entry_in(t, SINGLE, 0, 0, 0, 0)
     }
 }
 
@@ -221,5 +138,99 @@ impl Entries for Plan<'_> {
     fn entry_in(&self, t: usize, k: usize, y: usize, i: usize, j: usize, s: usize) -> u64 {
         let o = inside_of(self.counts, k, y, i, j, s);
         number_at(self.list, self.starts[t] + o)
+    }
+}
+
+// The readers of the index sets by which tables of the data alone are read.
+impl Tables<'_> {
+    ghost use Rattle.tables.specs.Lists.{data_of};
+
+    pub fn by_year(&self, t: usize, y: usize) -> u64
+        requires { EntryAt table_sets self.now.counts t [y] y 0 0 0 }
+        ensures { (result ≡ (data_of self.now).entry t y 0 0 0) × (result ≤ most32) }
+    {
+        self.entry_in(t, BY_YEAR, y, 0, 0, 0)
+    }
+
+    pub fn by_slice(&self, t: usize, s: usize) -> u64
+        requires { EntryAt table_sets self.now.counts t [s] 0 0 0 s }
+        ensures { (result ≡ (data_of self.now).entry t 0 0 0 s) × (result ≤ most32) }
+    {
+        self.entry_in(t, BY_SLICE, 0, 0, 0, s)
+    }
+
+    pub fn by_day(&self, t: usize, q: usize, d: usize) -> u64
+        requires { EntryAt table_sets self.now.counts t [qd] 0 q d 0 }
+        ensures { (result ≡ (data_of self.now).entry t 0 q d 0) × (result ≤ most32) }
+    {
+        self.entry_in(t, BY_DAY, 0, q, d, 0)
+    }
+
+    pub fn by_plant(&self, t: usize, g: usize) -> u64
+        requires { EntryAt table_sets self.now.counts t [g] 0 g 0 0 }
+        ensures { (result ≡ (data_of self.now).entry t 0 g 0 0) × (result ≤ most32) }
+    {
+        self.entry_in(t, BY_PLANT, 0, g, 0, 0)
+    }
+
+    pub fn by_plant_season(&self, t: usize, g: usize, q: usize) -> u64
+        requires { EntryAt table_sets self.now.counts t [gq] 0 g 0 q }
+        ensures { (result ≡ (data_of self.now).entry t 0 g 0 q) × (result ≤ most32) }
+    {
+        self.entry_in(t, BY_PLANT_SEASON, 0, g, 0, q)
+    }
+
+    pub fn by_plant_slice(&self, t: usize, g: usize, s: usize) -> u64
+        requires { EntryAt table_sets self.now.counts t [gs] 0 g 0 s }
+        ensures { (result ≡ (data_of self.now).entry t 0 g 0 s) × (result ≤ most32) }
+    {
+        self.entry_in(t, BY_PLANT_SLICE, 0, g, 0, s)
+    }
+
+    pub fn by_zone(&self, t: usize, z: usize) -> u64
+        requires { EntryAt table_sets self.now.counts t [z] 0 z 0 0 }
+        ensures { (result ≡ (data_of self.now).entry t 0 z 0 0) × (result ≤ most32) }
+    {
+        self.entry_in(t, BY_ZONE, 0, z, 0, 0)
+    }
+
+    pub fn by_link_season(&self, t: usize, y: usize, z: usize, w: usize, q: usize) -> u64
+        requires { EntryAt table_sets self.now.counts t [yzzq] y z w q }
+        ensures { (result ≡ (data_of self.now).entry t y z w q) × (result ≤ most32) }
+    {
+        self.entry_in(t, BY_LINK_SEASON, y, z, w, q)
+    }
+
+    pub fn by_pair(&self, t: usize, z: usize, w: usize) -> u64
+        requires { EntryAt table_sets self.now.counts t [zz] 0 z w 0 }
+        ensures { (result ≡ (data_of self.now).entry t 0 z w 0) × (result ≤ most32) }
+    {
+        self.entry_in(t, BY_PAIR, 0, z, w, 0)
+    }
+
+    pub fn by_year_fuel(&self, t: usize, y: usize, f: usize) -> u64
+        requires { EntryAt table_sets self.now.counts t [yf] y 0 f 0 }
+        ensures { (result ≡ (data_of self.now).entry t y 0 f 0) × (result ≤ most32) }
+    {
+        self.entry_in(t, BY_YEAR_FUEL, y, 0, f, 0)
+    }
+
+    pub fn single(&self, t: usize) -> u64
+        requires { EntryAt table_sets self.now.counts t [one] 0 0 0 0 }
+        ensures { (result ≡ (data_of self.now).entry t 0 0 0 0) × (result ≤ most32) }
+    {
+        self.entry_in(t, SINGLE, 0, 0, 0, 0)
+    }
+}
+
+impl Plan<'_> {
+    ghost use Rattle.sums.specs.Index.{index};
+    ghost use Rattle.tables.specs.Lists.{entry_of};
+
+    pub fn by_link_slice(&self, t: usize, y: usize, z: usize, w: usize, s: usize) -> u64
+        requires { EntryAt column_sets self.now.counts t [yzzs] y z w s }
+        ensures { (result ≡ entry_of self.now (index t y z w s)) × (result ≤ most32) }
+    {
+        self.entry_in(t, BY_LINK_SLICE, y, z, w, s)
     }
 }

@@ -3,7 +3,7 @@ ghost use Rattle.std.specs.Prelude.{◌≡◌, ◌<◌};
 ghost use Rattle.model.specs.Data.{existing, is_vre, is_battery};
 ghost use Rattle.tables.specs.Lists.{data_of};
 
-use crate::lists::{Entries, Tables};
+use crate::lists::Tables;
 use crate::names::{BATTERY, KIND, VRE};
 
 impl Tables<'_> {
