@@ -20,7 +20,8 @@ use tables::sets::BY_YEAR_PLANT;
 use terms::plants::capital_sum;
 use terms::years::{earlier, over_years};
 
-// `case` and `scale` stand together where a row has a constant: a row without one is the same at every scale and takes none, as N stands in the document's rows.
+// `case` and `scale` stand together where a row has a constant: the scale is handed beside the case, as N stands in the document's rows.
+// A row without a constant is the same at every scale and takes none.
 // `tables` and `energy` stand together below: `Energies` is a premise of the promise. A struct that held the fact would ask it of every caller.
 
 // 12 (34): existing, first year: cap = GenCap; later: cap = earlier cap − retire. Candidate: cap = earlier cap (0 in the first year) + build
