@@ -14,6 +14,8 @@ use tables::sets::BY_LINK;
 use terms::years::{earlier, over_years};
 use zone_constants::new_lines_constant;
 
+// `case` and `scale` stand together as in `fleet_rows`: a row without a constant takes no scale.
+
 // 26: total = earlier total (0 in the first year) + built, within one zone too
 pub fn line_balance(plan: &Plan, y: usize, z: usize, w: usize) -> Sides
     requires { (y < plan.now.counts.years) × ((z < plan.now.counts.zones) × (w < plan.now.counts.zones)) }

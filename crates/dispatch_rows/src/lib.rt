@@ -31,6 +31,8 @@ fn rate_of_capacity(plan: &Plan, rate: u64, y: usize, g: usize) -> Sum
 }
 
 // A year's part here and below is a bare slice, and each contract says what it is: document 01 has it as a slice part, handed on to row tests and posting.
+// No struct of all the year's parts (`rows::years::Year`) is handed over: it would ask each row for parts that it does not read.
+
 // 1000 times an entry of a year's part of gen, reserve or charge, to stand beside a rate of capacity.
 fn in_thousandths(plan: &Plan, part: &[u32], g: usize, s: usize) -> Sum
     requires { (length part.now ≡ plan.now.counts.plants * slices_of plan.now.counts) × ((g < plan.now.counts.plants) × (s < slices_of plan.now.counts)) }

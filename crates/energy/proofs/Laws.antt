@@ -46,13 +46,6 @@ module _ {c : Counts} (few : Counted c) where
   pub slice-below : {q i : ℕ} → q < c.seasons → i < season_length c → q * season_length c + i < slices_of c
   slice-below hq hi = omega (arith, below-product c.seasons (season_length c) hq hi, mul_assoc c.seasons c.days c.hours)
 
-  -- the slices of a season, and those of the seasons before it
-  pub few-season-slices : {q : ℕ} → q < c.seasons → (season_length c ≤ 96) × (q * season_length c ≤ 288)
-  few-season-slices {q} hq =
-      let p = mul-le-mul few.few_days few.few_hours in
-      let h : q ≤ 3 = omega (arith, few.few_seasons) in
-      (p, mul-le-mul h p)
-
 -- a season's sum by the counts
 pub season-is : (D : Data) {c : Counts} {n : ℕ} (q : ℕ) (f : ℕ → ℕ) → D.counts ≡ c → n ≡ season_length c
     → sum n (λ i. f (q * season_length c + i)) ≡ season_sum D q f

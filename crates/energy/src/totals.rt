@@ -15,7 +15,7 @@ use tables::lists::Tables;
 use tables::names::{DURATION, EMISSION, FUEL, HEAT_RATE, ZONE};
 use terms::totals::total;
 
-// A plant's energy in every year and season, as many of each as there may be: 10 years, 32 plants and 4 seasons.
+// A plant's energy in every year and season, as many of each as there may be: 10 years, 32 plants and 4 seasons. The memory is fixed: there is no heap.
 pub const ENERGY_COUNT: usize = 1280;
 
 pub type EnergyTable = [Sum; ENERGY_COUNT];

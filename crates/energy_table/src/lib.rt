@@ -9,7 +9,7 @@ use parts::years::year_part;
 use tables::lists::Case;
 use tables::names::GEN;
 
-// The energies of every year, plant and season.
+// The energies of every year, plant and season. The place is made of the three indices, so they are counted.
 pub fn fill_energies(case: &Case, energy: &mut EnergyTable)
     ensures { Energies (data_of case.now.tables) (entry_of case.now.plan) energy.new case.now.plan.counts }
 {

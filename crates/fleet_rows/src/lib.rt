@@ -13,12 +13,16 @@ use fleet_constants::{
     capital_constant, fuel_use_constant, new_capacity_constant, stock_constant,
     system_emission_constant, yearly_build_constant, zone_emission_constant,
 };
-use row_sums::{Sides, at_most, empty, with_constant};
+use row_sums::{Sides, at_most, at_most_zero, empty, with_constant};
 use tables::lists::{Case, Entries, Tables};
 use tables::names::{BUILD, CAP, RETIRE, YEAR};
 use tables::sets::BY_YEAR_PLANT;
 use terms::plants::capital_sum;
 use terms::years::{earlier, over_years};
+
+// `case` and `scale` stand together where a row has a constant: the scale is handed beside the case, as N stands in the document's rows.
+// A row without a constant is the same at every scale and takes none.
+// `tables` and `energy` stand together below: `Energies` is a premise of the promise. A struct that held the fact would ask it of every caller.
 
 // 12 (34): existing, first year: cap = GenCap; later: cap = earlier cap − retire. Candidate: cap = earlier cap (0 in the first year) + build
 pub fn stock(case: &Case, scale: u64, y: usize, g: usize) -> Sides
@@ -50,10 +54,7 @@ pub fn life(case: &Case, y: usize, g: usize) -> Sides
     if in_service(&case.tables, y, g) {
         return empty();
     }
-    Sides {
-        above: capped::zero(),
-        below: capped::product(1, case.plan.by_year_plant(CAP, y, g)),
-    }
+    at_most_zero(capped::product(1, case.plan.by_year_plant(CAP, y, g)))
 }
 
 // 14 (61): existing: in the first year build + retire ≤ 0, later build ≤ 0; candidate: retire ≤ 0
@@ -63,16 +64,10 @@ pub fn fixed(case: &Case, y: usize, g: usize) -> Sides
 {
     let retire = case.plan.by_year_plant(RETIRE, y, g);
     if !case.tables.is_existing(g) {
-        return Sides {
-            above: capped::zero(),
-            below: capped::product(1, retire),
-        };
+        return at_most_zero(capped::product(1, retire));
     }
     let build = capped::product(1, case.plan.by_year_plant(BUILD, y, g));
-    Sides {
-        above: capped::zero(),
-        below: capped::add_product_if(y == 0, build, 1, retire),
-    }
+    at_most_zero(capped::add_product_if(y == 0, build, 1, retire))
 }
 
 // 15 (55), candidate: Σ build ≤ MaxNewCap

@@ -19,7 +19,7 @@ use tables::sets::{inside_of, slices_of};
 use tables::starts::{column_box, column_set};
 use terms::totals::total;
 
-// The slices of plant or zone i in year y: a part of the plan.
+// The slices of plant or zone i in year y: a part of the plan. `peaks` takes a part of the data: what the two share is one slice expression.
 #[tactic(auto, using(column_prices::proofs::Laws::column_laws))]
 fn slices_at<'a>(plan: &Plan<'a>, t: usize, y: usize, i: usize) -> &'a [u32]
     requires { Hours plan.now.counts t y i }

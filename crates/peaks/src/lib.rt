@@ -10,7 +10,7 @@ use tables::lists::Tables;
 use tables::names::DEMAND;
 use tables::sets::{BY_YEAR_ZONE_SLICE, inside_of, slices_of};
 
-// The peak of a span is the larger of its halves' peaks, and a single slice's is its Demand.
+// The peak of a span is the larger of its halves' peaks, and a single slice's is its Demand. Document 01 names this recursion over the halves.
 fn peak_of(demand: &[u32]) -> u32
     ensures { result ≡ largest (length demand.now) (λ i. get_or demand.now i 0) }
 {
@@ -26,7 +26,7 @@ fn peak_of(demand: &[u32]) -> u32
     earlier.max(later)
 }
 
-// The largest Demand[y,z,·].
+// The largest Demand[y,z,·], over a part of the data. `hour_costs` takes a part of the plan: what the two share is one slice expression.
 #[tactic(auto, using(crate::proofs::Laws::part_below))]
 pub fn zone_peak(tables: &Tables, y: usize, z: usize) -> u64
     requires { (y < tables.now.counts.years) × (z < tables.now.counts.zones) }

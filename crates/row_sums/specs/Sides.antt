@@ -16,6 +16,10 @@ use Rattle.row_sums.specs.declared.Sides.{Sides}
 abbrev pub sides : ℕ → ℕ → Sides
 sides a b = record { above = cap a; below = cap b }
 
+-- a number held at most to 0: a capped sum below, and nothing above
+abbrev pub above_nothing : Sum → Sides
+above_nothing s = record { above = cap 0; below = s }
+
 -- a row's two sums; opened down to the family's equation, so that a proof names one definition
 unfoldable pub sides_of : Data → ℕ → (Index → ℕ) → Index → Sides
 unfolding above below constant⁺ constant⁻ equation

@@ -3,7 +3,7 @@
 
 ghost use Rattle.std.specs.Prelude.{◌≡◌};
 ghost use Rattle.capped.specs.Cap.{cap};
-ghost use Rattle.row_sums.specs.Sides.{sides_with, sides};
+ghost use Rattle.row_sums.specs.Sides.{above_nothing, sides_with, sides};
 
 use capped::Sum;
 use constants::{Constant, netted};
@@ -38,6 +38,16 @@ pub fn at_most(below: Sum, scale: u64, k: Constant) -> Sides
     ensures { result ≡ sides_with (cap 0) below scale k }
 {
     with_constant(capped::zero(), below, scale, k)
+}
+
+// A row without a constant that holds a sum of columns to 0: its terms are all negative.
+pub fn at_most_zero(below: Sum) -> Sides
+    ensures { result ≡ above_nothing below }
+{
+    Sides {
+        above: capped::zero(),
+        below,
+    }
 }
 
 // A row whose condition fails reads 0 ≥ 0.

@@ -23,6 +23,8 @@ use tables::lists::{Case, Entries, Tables};
 use tables::names::{CAP, EFFICIENCY};
 
 // A year's part here and below is a bare slice, and each contract says what it is: document 01 has it as a slice part, handed on to row tests and posting.
+// No struct of all the year's parts (`rows::years::Year`) is handed over: it would ask each row for parts that it does not read.
+
 // 21 (42, 43), battery: level = level[s−1] (0 before a day's first slice) + Efficiency·charge − 1000·gen
 pub fn battery_level(
     tables: &Tables,

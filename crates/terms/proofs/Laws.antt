@@ -2,7 +2,7 @@
 -- `Summed` is a record and no product, so that a law finds the term f and the number of turns in the invariant.
 use mathlib.Core.Path.{◌≡◌, sym, ap, ◌∙◌}
 use mathlib.Core.Bool.{Bool, true, false}
-use Prim.Native.Nat.{ℕ, ◌+◌, ◌≤◌, ◌<◌, zero-le}
+use Prim.Native.Nat.{ℕ, ◌+◌, ◌*◌, ◌≤◌, ◌<◌, zero-le}
 use native.Mathlib.Nat.{add-zero, le_antisymm, mul-le-mul}
 use native.Mathlib.Omega.{arith}
 use Rattle.capped.specs.Cap.{cap, plus_if, Sum}
@@ -38,5 +38,9 @@ module _ {n : ℕ} {f : ℕ → ℕ} {k : ℕ} {s : Sum} (h : Summed n f k s) wh
 
 -- Slices of a season
 
-pub few-season-slices : {c : Counts} → Counted c → season_length c ≤ 96
-few-season-slices few = mul-le-mul few.few_days few.few_hours
+-- the slices of a season, and those of the seasons before it
+pub few-season-slices : {c : Counts} → Counted c → {q : ℕ} → q < c.seasons → (season_length c ≤ 96) × (q * season_length c ≤ 288)
+few-season-slices few {q} hq =
+    let p = mul-le-mul few.few_days few.few_hours in
+    let h : q ≤ 3 = omega (arith, few.few_seasons) in
+    (p, mul-le-mul h p)

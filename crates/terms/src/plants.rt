@@ -15,30 +15,32 @@ use tables::names::{ANNUITY, CAP, CAP_CREDIT, DURATION, RATE, WEIGHT, ZONE};
 
 // A year's part here and in `vre_sum` is a bare slice, so its length is asked: document 01 has it as a slice part, handed on to row tests and to posting.
 // A loop here and in `vre_sum`, and no `total`: a sum of terms takes half as long again, and the rows of each slice wait for these two.
+// Two functions, and no one with the factor and the test handed in: these are all that the loop has beside the sum.
+
 // 1000·Σ of a year's part over the plants of zone z, in slice s.
 pub fn zone_sum(tables: &Tables, part: &[u32], z: u64, s: usize) -> Sum
     requires { (length part.now ≡ tables.now.counts.plants * slices_of tables.now.counts) × (s < slices_of tables.now.counts) }
     ensures { result ≡ cap (sum tables.now.counts.plants (λ g. on (eqb (zone (data_of tables.now) g) z) (1000 * get_or part.now (g * slices_of tables.now.counts + s) 0))) }
 {
-    let mut total = capped::zero();
+    let mut sum = capped::zero();
     for g in 0..tables.counts.plants {
         let here = tables.by_plant(ZONE, g) == z;
-        total = capped::add_product_if(here, total, 1000, part_at(part, tables.counts, g, s));
+        sum = capped::add_product_if(here, sum, 1000, part_at(part, tables.counts, g, s));
     }
-    total
+    sum
 }
 
-// Err·Σ gen of VRE over the plants of zone z, in slice s.
+// Err·Σ gen of VRE over the plants of zone z, in slice s. `&` and no `&&`: the loop has one way through.
 pub fn vre_sum(tables: &Tables, part: &[u32], z: u64, err: u64, s: usize) -> Sum
     requires { (length part.now ≡ tables.now.counts.plants * slices_of tables.now.counts) × (s < slices_of tables.now.counts) }
     ensures { result ≡ cap (sum tables.now.counts.plants (λ g. on (eqb (zone (data_of tables.now) g) z) (on (is_vre (data_of tables.now) g) (err * get_or part.now (g * slices_of tables.now.counts + s) 0)))) }
 {
-    let mut total = capped::zero();
+    let mut sum = capped::zero();
     for g in 0..tables.counts.plants {
         let here = (tables.by_plant(ZONE, g) == z) & tables.is_vre(g);
-        total = capped::add_product_if(here, total, err, part_at(part, tables.counts, g, s));
+        sum = capped::add_product_if(here, sum, err, part_at(part, tables.counts, g, s));
     }
-    total
+    sum
 }
 
 // Σ CapCredit·cap over the plants of zone z.

@@ -6,7 +6,10 @@ ghost use Rattle.model.specs.Data.{most32};
 
 use capped::Sum;
 
+// Two functions: `total` caps and takes any term, `exact_total` needs bounds and gives a number.
+
 // Σ term(i) over the i below n: where each term is the capped sum of a number f i, it is that of Σ f.
+// A loop, and no `fold` over the terms: tried, and the proof that a term can be called at each turn did not close.
 pub fn total<F: Fn(usize) -> Sum>(n: usize, term: F) -> Sum
     requires { (i : ℕ) → i < n → F.pre term i }
     ensures { (f : ℕ → ℕ) → ((i : ℕ) (r : Sum) → i < n → F.post term i r → r ≡ cap (f i)) → result ≡ cap (sum n f) }
@@ -35,6 +38,7 @@ pub fn exact_total<F: Fn(usize) -> u64>(n: usize, term: F) -> u64
 
 // A product where a test holds, else 0.
 // The test is the condition under a sum (`on` of the definitions), and no switch: a closure that chooses a product or 0 takes five lines for this call.
+// Not by `capped::add_product_if`: a term alone would be written as a sum onto 0, and be compared with the limit twice.
 pub fn product_if(test: bool, a: u64, b: u64) -> Sum
     ensures { result ≡ cap (on test (a * b)) }
 {

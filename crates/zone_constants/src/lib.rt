@@ -40,7 +40,8 @@ pub fn balance_constant(tested: &TestedTables, y: usize, z: usize, s: usize) -> 
 {
     let rates = rates_of(tested, y, z);
     let demand = tested.tables.by_year_zone_slice(DEMAND, y, z, s);
-    Constant::taking(demand * rates.ee)
+    let load = demand * rates.ee;
+    Constant::taking(load)
 }
 
 // 2: TL

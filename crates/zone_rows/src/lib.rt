@@ -25,6 +25,9 @@ use terms::plants::{credit_sum, vre_sum, zone_sum};
 use zone_constants::{balance_constant, firm_constant, spinning_constant, transfer_constant};
 
 // A year's part here and below is a bare slice, and each contract says what it is: document 01 has it as a slice part, handed on to row tests and posting.
+// No struct of all the year's parts (`rows::years::Year`) is handed over: it would ask each row for parts that it does not read.
+// `case` and `scale` stand together as in `fleet_rows`: a row without a constant takes no scale.
+
 // 1 (14): 1000·Σ gen in z − 1000·Σ charge in z − 1000·Σ trans[z,z2] + Σ (1000 − Loss[z2,z])·trans[z2,z] + unmet − surplus = Demand·EE
 pub fn balance(
     case: &Case,

@@ -1,5 +1,6 @@
 use borrow.Author.Rules.{rules}
-use Rattle.energy.proofs.Laws.{slice-below, few-season-slices}
+use Rattle.terms.proofs.Laws.{few-season-slices}
+use Rattle.energy.proofs.Laws.{slice-below}
 use Rattle.energy.proofs.totals.season_energy.Goals as goal
 
 pub total-requires : goal.total-requires

@@ -12,7 +12,7 @@ invariant-loop-g l = Summed
     l.tables.counts.plants
     (λ g. on (eqb (zone (read l.tables.list.now) g) l.z) (on (is_vre (read l.tables.list.now) g) (l.err * get_or l.part (g * slices_of l.tables.counts + l.s) 0)))
     l.g
-    l.total
+    l.sum
 
 abbrev pub decreases-loop-g : goal.decreases-loop-g
 decreases-loop-g l = l.tables.counts.plants - l.g

@@ -3,14 +3,14 @@ use Rattle.terms.proofs.Laws.{plus-on, summed-none, summed-more, summed-all}
 use Rattle.terms.proofs.plants.zone_sum.Goals as goal
 
 pub loop-g-init : goal.loop-g-init
-loop-g-init c = summed-none c.zero-total.ensures
+loop-g-init c = summed-none c.zero-sum.ensures
 
 pub loop-g-preserved : goal.loop-g-preserved
 loop-g-preserved c =
     let h = c.loop-g.invariant in
     let zone-is = c.by_plant.ensures.0 in
     let entry-is = c.part_at.ensures.0 in
-    summed-more h c.loop-g-test.true (c.add_product_if-total.ensures ∙ rw (h.is, zone-is, entry-is, plus-on))
+    summed-more h c.loop-g-test.true (c.add_product_if-sum.ensures ∙ rw (h.is, zone-is, entry-is, plus-on))
 
 pub returns : goal.returns
 returns c = summed-all c.loop-g.invariant c.loop-g-test.false
