@@ -22,6 +22,7 @@ pub fn total<F: Fn(usize) -> Sum>(n: usize, term: F) -> Sum
 }
 
 // The same of up to 2^32 - 1 numbers, each up to 2^32 - 1: a word holds their sum.
+// A loop here too: a `fold` was tried, and the proof that each turn's sum fits a word did not close.
 pub fn exact_total<F: Fn(usize) -> u64>(n: usize, term: F) -> u64
     requires few { n ≤ most32 }
     requires callable { (i : ℕ) → i < n → F.pre term i }
