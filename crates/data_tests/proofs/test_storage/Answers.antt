@@ -13,5 +13,5 @@ unfolding storage_fault
 returns c =
     let D = read c.args.tables.now.list.now in
     c.first_refused.ensures (plant_storage_fault D) (λ g h k. plant-passed D g (search rules) refl)
-    (λ g r h k e. rw e (plant-refused D g (search rules) refl))
+    (λ g r h k e. let z = plant-refused D g (search rules) refl in search rules)
     ∙ ap (λ (k : Counts). outcome (upto k.plants (plant_storage_fault D))) (sym c.args.tables.now.laid_out.counts)
