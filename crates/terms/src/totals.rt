@@ -39,7 +39,7 @@ pub fn exact_total<F: Fn(usize) -> u64>(n: usize, term: F) -> u64
 
 // A product where a test holds, else 0.
 // The test is the condition under a sum (`on` of the definitions), and no switch: a closure that chooses a product or 0 takes five lines for this call.
-// Not by `capped::add_product_if`: a term alone would be written as a sum onto 0, and be compared with the limit twice.
+// Not by `capped::add_product_if`: a term alone would be written as a sum onto 0, with a comparison with the limit that a product does not need.
 pub fn product_if(test: bool, a: u64, b: u64) -> Sum
     ensures { result ≡ cap (on test (a * b)) }
 {
