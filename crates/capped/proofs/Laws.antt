@@ -3,7 +3,7 @@
 -- A law's name is FACT-FUNCTION where it gives the function's answer from the fact, and FUNCTION-ANSWER where it gives the fact from the
 -- answer. No law but `limit-least` rests on what number `limit` is. Assumes nothing.
 use mathlib.Core.Path.{◌≡◌, refl, sym, ap, ◌∙◌}
-use mathlib.Core.Bool.{Bool, true, false, cond, ◌&&◌}
+use mathlib.Core.Bool.{Bool, true, false, ◌&&◌}
 use mathlib.Core.Logic.{◌⊎◌, inl, inr, ⊎_elim}
 use Prim.Native.Nat.{ℕ, ◌+◌, ◌*◌, ◌-◌, ◌^◌, ◌<◌, ◌≤◌, zero-le}
 use native.Mathlib.Nat.{add-zero, mul-zero, lt_of_lt_of_le, le-mul_of_pos_right, eq-zero-or-pos, mul_comm}
@@ -13,7 +13,7 @@ use borrow.Author.Tests.{le-leb, lt-leb, leb-true, leb-false, ne_eqb}
 use Rattle.lengths.specs.Length.{bit_length}
 use Rattle.lengths.proofs.Laws.{length-least}
 use Rattle.std.specs.Prelude.{Some, None}
-use Rattle.capped.specs.Cap.{Sum, straight, half, limit, cap, plus, plus_if, both, times, times_both}
+use Rattle.capped.specs.Cap.{Sum, straight, half, limit, cap, plus, both, times, times_both}
 
 pub le-or-lt : (m n : ℕ) → (m ≤ n) ⊎ (n < m)
 le-or-lt m n = go (leb m n) refl
@@ -131,9 +131,3 @@ times-both m n = go (capped m) (capped n)
     go (high h) (low k) = rw (← cap-high m h) (times-cap m n)
     go (low h) (high k) = rw (← cap-high n k) (times-cap n m ∙ ap cap (mul_comm n m))
     go (high h) (high k) = sym (cap-high (m * n) (lt_of_lt_of_le h (le-mul_of_pos_right m (omega arith))))
-
--- A term under a test
-
-pub plus-if : (b : Bool) (m n : ℕ) → plus_if b (cap m) n ≡ cap (m + cond b n 0)
-plus-if true m n = plus-cap m n
-plus-if false m n = ap cap (sym (add-zero m))

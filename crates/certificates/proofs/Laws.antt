@@ -19,7 +19,8 @@ use Rattle.model.specs.Calls.{certificate, outcome}
 use Rattle.sums.proofs.Spans.{or_else-fine}
 use Rattle.model.specs.Families.{row_boxes, shape_of}
 use Rattle.model.proofs.Sound.{passed}
-use Rattle.data_tests.proofs.Passed.{laid-counts, refused-by, passed-by, in_two, passes}
+use Rattle.tables.proofs.Steps.{outcome-fine}
+use Rattle.data_tests.proofs.Passed.{laid-counts, refused-by, passed-by, in_two}
 
 -- the counts of the sizes are those of the data
 pub counts-laid : (t : Tables) {l : List ℕ} {shape : Shape} → t.list.now ≡ l → shape ≡ shape_of t.counts → (read l).counts ≡ shape.counts
@@ -42,11 +43,11 @@ module _ (D : Data) (ms : List ℤ) (N cost : ℕ) where
   module _ {o : Result (Unit {0}) Refusal} (e : o ≡ outcome multiplier_tests) (q : o ≡ Ok tt) where
     pub multipliers-whole : length ms ≡ count (row_boxes D.counts)
     unfolding multiplier_count_fault
-    multipliers-whole = eqb-true _ _ (passed _ _ (or_else-fine _ _ (passes e q)).0)
+    multipliers-whole = eqb-true _ _ (passed _ _ (or_else-fine _ _ (outcome-fine _ e q)).0)
 
     pub columns-refused : {p : Result (Unit {0}) Refusal} {r : Refusal} {v : Result Certificate Refusal} → p ≡ outcome (columns_fault D ms) → p ≡ Err r → v ≡ Err r → v ≡ certificate (dual_fault D ms N) cost (gap D ms N cost)
-    columns-refused h w n = n ∙ rw (stages, passed-by multiplier_tests rest (passes e q), refused-by (columns_fault D ms) (gap_fault D ms N) h w)
+    columns-refused h w n = n ∙ rw (stages, passed-by multiplier_tests rest (outcome-fine _ e q), refused-by (columns_fault D ms) (gap_fault D ms N) h w)
 
     pub columns-passed : {p : Result (Unit {0}) Refusal} {v : Result Certificate Refusal} → p ≡ outcome (columns_fault D ms) → p ≡ Ok tt
         → v ≡ certificate (gap_fault D ms N) cost (gap D ms N cost) → v ≡ certificate (dual_fault D ms N) cost (gap D ms N cost)
-    columns-passed h w g = g ∙ rw (stages, passed-by multiplier_tests rest (passes e q), passed-by (columns_fault D ms) (gap_fault D ms N) (passes h w))
+    columns-passed h w g = g ∙ rw (stages, passed-by multiplier_tests rest (outcome-fine _ e q), passed-by (columns_fault D ms) (gap_fault D ms N) (outcome-fine _ h w))

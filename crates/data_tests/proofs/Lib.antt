@@ -1,2 +1,1 @@
-pub mod Firsts
 pub mod Passed

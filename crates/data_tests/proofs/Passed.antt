@@ -9,25 +9,20 @@ use native.Mathlib.Omega.{arith}
 use borrow.Author.Tests.{le-leb, lt-leb, eq-eqb, ne_eqb, leb-true, eqb-true}
 use lib.Dec.{eqb, leb}
 use lib.ListN.{length, get_or}
-use Rattle.sums.specs.Span.{Fault, fine, fault, or_else, upto}
-use Rattle.sums.specs.Index.{count}
+use Rattle.sums.specs.Span.{Fault, fine, fault, or_else}
 use Rattle.sums.proofs.Spans.{or_else-fine}
 use Rattle.model.specs.declared.Refusal.{Refusal}
 use Rattle.model.specs.declared.Refusal.TheVariants.{Shape, DataLength}
 use Rattle.model.specs.declared.Counts.{Counts}
-use Rattle.model.specs.Data.{Data, within, ◌to◌, most_counts, counts_of, data_length, read, table_count}
-use Rattle.model.specs.Tests.{unless, head_fault, count_fault, counts_fault, length_fault, entries_fault, plant_storage_fault, storage_fault, data_fault}
+use Rattle.model.specs.Data.{within, ◌to◌, most_counts, counts_of, data_length, read, table_count}
+use Rattle.model.specs.Tests.{unless, head_fault, count_fault, counts_fault, length_fault, entries_fault, storage_fault, data_fault}
 use Rattle.model.proofs.Sound.{count-range, passed}
-use Rattle.model.specs.Columns.{column_sets, column_boxes, column_kind_count}
 use Rattle.tables.specs.declared.lists.Tables.{Tables}
-use Rattle.tables.specs.Layout.{Counted, TablesAt, ColumnsAt, start_from, table_sets}
-use Rattle.tables.proofs.Laws.{tables_end, columns-end as columns-are}
+use Rattle.tables.specs.Layout.{Counted, TablesAt, start_from, table_sets}
+use Rattle.tables.proofs.Laws.{tables_end}
+use Rattle.tables.proofs.Steps.{outcome-fine}
 
 -- Outcomes of one test and then another
-
-pub outcome-fine : (f : Fault Refusal) → outcome f ≡ Ok tt → f ≡ fine
-outcome-fine fine e = refl
-outcome-fine (fault r) e = let z : ◌≡◌ {A = ℕ} 0 1 = cc in absurd (omega arith)
 
 pub stopped : (f g : Fault Refusal) {o : Result (Unit {0}) Refusal} {r : Refusal} → o ≡ outcome f → o ≡ Err r → o ≡ outcome (or_else f g)
 unfolding or_else
@@ -41,6 +36,8 @@ handed_on f g e q n = n ∙ sym q ∙ stopped f g e q
 pub went_on : (f g : Fault Refusal) {o : Result (Unit {0}) Refusal} → f ≡ fine → o ≡ outcome g → o ≡ outcome (or_else f g)
 unfolding or_else
 went_on f g p e = rw p e
+
+pub ruleset in_order = (outcome-fine, handed_on, went_on)
 
 pub in-turn : (f g h k : Fault Refusal) → or_else (or_else f (or_else g h)) k ≡ or_else f (or_else g (or_else h k))
 unfolding or_else
@@ -62,9 +59,6 @@ pub in_two : (f g h : Fault Refusal) → or_else (or_else f g) h ≡ or_else f (
 unfolding or_else
 in_two fine g h = refl
 in_two (fault r) g h = refl
-
-pub passes : {f : Fault Refusal} {o : Result (Unit {0}) Refusal} → o ≡ outcome f → o ≡ Ok tt → f ≡ fine
-passes {f} e q = outcome-fine f (sym e ∙ q)
 
 module _ (l : List ℕ) where
   pub head-short : length l < 7 → head_fault l ≡ fault (DataLength 7)
@@ -122,11 +116,6 @@ module _ (l : List ℕ) where
         few_years = y.1;
       }
 
--- all plants passed refusal 16
-pub all-passed : (D : Data) {c : Counts} {n : ℕ} → D.counts ≡ c → n ≡ c.plants → upto n (plant_storage_fault D) ≡ fine → storage_fault D ≡ fine
-unfolding storage_fault
-all-passed D e q h = ap (λ (k : ℕ). upto k (plant_storage_fault D)) (ap (λ (k : Counts). k.plants) e ∙ sym q) ∙ h
-
 -- Data that passed, for callers
 
 -- refusals 1 and 2
@@ -176,9 +165,6 @@ module _ (l : List ℕ) (sound : data_fault l ≡ fine) where
   pub sound-counts : Counted (counts_of l)
   sound-counts = passed-counts l sound-head
 
-  pub sound-tables : (tables-at : List ℕ) {c : Counts} → c ≡ counts_of l → ((t : ℕ) → t ≤ table_count → get_or tables-at t 0 ≡ start_from c table_sets 7 t) → TablesAt l tables-at c
-  sound-tables = passed-tables l sound-head
-
 -- the counts that the code holds are those of the data
 pub counts-sound : (l : List ℕ) → data_fault l ≡ fine → {c : Counts} → c ≡ counts_of l → Counted c
 counts-sound l s e = rw e (sound-counts l s)
@@ -186,13 +172,6 @@ counts-sound l s e = rw e (sound-counts l s)
 pub counts-read : (l : List ℕ) {c : Counts} → c ≡ counts_of l → (read l).counts ≡ c
 unfolding read
 counts-read l e = sym e
-
-pub columns-end : (l : List ℕ) {c : Counts} {n : ℕ} → c ≡ counts_of l → n ≡ start_from c column_sets 0 column_kind_count → n ≡ count (column_boxes (read l).counts)
-columns-end l {c} e q = q ∙ columns-are c ∙ ap (λ (d : Counts). count (column_boxes d)) (sym (counts-read l e))
-
-pub plan-columns : {plan columns-at : List ℕ} {c : Counts} (l : List ℕ) → c ≡ counts_of l → length plan ≡ count (column_boxes (read l).counts)
-    → ((k : ℕ) → k ≤ column_kind_count → get_or columns-at k 0 ≡ start_from c column_sets 0 k) → ColumnsAt plan columns-at c
-plan-columns l e w s = record { whole = w ∙ ap (λ (d : Counts). count (column_boxes d)) (counts-read l e); starts = s }
 
 -- data laid out have the counts of their list
 pub laid-counts : (t : Tables) {l : List ℕ} → t.list.now ≡ l → (read l).counts ≡ t.counts

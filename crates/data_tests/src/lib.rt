@@ -1,8 +1,8 @@
 // The tests of the data: refusals 1, 2, 3 and 16.
 #![tactic(auto)]
 
-ghost use Rattle.std.specs.Prelude.{◌≡◌, ◌&&◌, ◌≤◌, ◌<◌, length, get_or};
-ghost use Rattle.sums.specs.Span.{fine, or_else};
+ghost use Rattle.std.specs.Prelude.{ℕ, true, false, ◌≡◌, ◌&&◌, ◌≤◌, ◌<◌, length, get_or};
+ghost use Rattle.sums.specs.Span.{Fault, fine, fault, or_else, upto};
 ghost use Rattle.model.specs.Data.{counts_of, most_counts, within, ◌to◌, is_battery, is_vre};
 ghost use Rattle.model.specs.Tests.{head_fault, counts_fault, length_fault, entries_fault, storage_fault, data_fault};
 ghost use Rattle.model.specs.Calls.{outcome};
@@ -53,15 +53,31 @@ fn is_count(data: &[u32], i: usize) -> bool
     in_range(r, data[i])
 }
 
+// The refusal of the first of n numbers, in order, that is bad, where one is.
+// A loop and no `find`: that would put a closure of its own around each call of the test that is handed over.
+fn first_refused<P: Fn(usize) -> bool, R: Fn(usize) -> Refusal>(
+    n: usize,
+    bad: P,
+    refusal: R,
+) -> Result<(), Refusal>
+    requires { (i : ℕ) → i < n → P.pre bad i × R.pre refusal i }
+    ensures { (f : ℕ → Fault Refusal) → ((i : ℕ) → i < n → P.post bad i false → f i ≡ fine)
+        → ((i : ℕ) (r : Refusal) → i < n → P.post bad i true → R.post refusal i r → f i ≡ fault r) → result ≡ outcome (upto n f) }
+{
+    for i in 0..n {
+        if bad(i) {
+            return Err(refusal(i));
+        }
+    }
+    Ok(())
+}
+
 // Refusal 1.
 fn test_counts(data: &[u32]) -> Result<(), Refusal>
     requires { 7 ≤ length «data».now }
     ensures { result ≡ outcome (counts_fault «data».now) }
 {
-    match (0..7).find(|&i| !is_count(data, i)) {
-        Some(i) => Err(Refusal::Shape(i)),
-        None => Ok(()),
-    }
+    first_refused(7, |i| !is_count(data, i), Refusal::Shape)
 }
 
 // Refusal 2, the length that the counts give.
@@ -112,14 +128,15 @@ fn is_vre_battery(tables: &Tables, g: usize) -> bool
 fn test_storage(tables: &Tables) -> Result<(), Refusal>
     ensures { result ≡ outcome (storage_fault (data_of tables.now)) }
 {
-    match (0..tables.counts.plants).find(|&g| is_vre_battery(tables, g)) {
-        Some(g) => Err(Refusal::Storage(g)),
-        None => Ok(()),
-    }
+    first_refused(
+        tables.counts.plants,
+        |g| is_vre_battery(tables, g),
+        Refusal::Storage,
+    )
 }
 
 // Refusals 3 and 16: all entries before any battery.
-#[tactic(auto, using(crate::proofs::Passed::passes, crate::proofs::Passed::handed_on, crate::proofs::Passed::went_on))]
+#[tactic(auto, using(crate::proofs::Passed::in_order))]
 fn test_tables(tables: &Tables) -> Result<(), Refusal>
     ensures { result ≡ outcome (or_else (entries_fault (data_of tables.now)) (storage_fault (data_of tables.now))) }
 {

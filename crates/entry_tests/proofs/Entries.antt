@@ -1,8 +1,9 @@
 -- The walk through the entries that is left at the first out of range. Assumes nothing.
+use Rattle.std.specs.Prelude.{Result}
 use mathlib.Core.Path.{◌≡◌, refl, sym, ap, ◌∙◌}
 use mathlib.Core.Bool.{Bool}
 use mathlib.Core.List.{List}
-use Prim.Native.Nat.{ℕ, ◌+◌, ◌<◌}
+use Prim.Native.Nat.{ℕ, ◌+◌, ◌≤◌, ◌<◌}
 use native.Mathlib.Omega.{arith}
 use lib.ListN.{length, get_or}
 use Rattle.sums.specs.declared.Box.{Box}
@@ -17,6 +18,7 @@ use Rattle.model.specs.Tests.{unless, entry_fault, entries_fault}
 use Rattle.ranges.specs.declared.Range.{Range}
 use Rattle.tables.specs.Layout.{TablesAt, EntryAt, start_from, table_sets}
 use Rattle.ranges.specs.Ranges.{ranged, range_of}
+use Rattle.tables.proofs.Walk.{Reached, turned, ended}
 use Rattle.tables.proofs.Laws.{entry-below, entry-is, entry-place, box-at, start-more}
 
 -- the faults of a table with the index set b, level by level
@@ -43,6 +45,11 @@ table_fault D t = at_table D (box_of (table_boxes D.counts) t) t
 pub all-tables : (D : Data) → entries_fault D ≡ upto (length tables) (table_fault D)
 unfolding entries_fault table_boxes
 all-tables D = refl
+
+-- a turn of a loop whose test is a loop of its own
+pub turn : {f g : ℕ → Fault Refusal} {p q : ℕ → ℕ} {k n i m before place : ℕ} {a b : Result (Unit {0}) Refusal}
+    → Reached f p k n before a → k < n → Reached g q i m place b → m ≤ i → f k ≡ upto m g → q m ≡ p (k + 1) → Reached f p (k + 1) n place b
+turn r h s d e w = let t = ended s d in turned r h s.going (e ∙ t.0) (t.1 ∙ w)
 
 module _ {l tables-at : List ℕ} {c : Counts} (h : TablesAt l tables-at c) {b : Box} {t : ℕ} (few : t < length tables) (e : b ≡ box_of (sets c) (get_or table_sets t 0)) where
   -- the place where the table starts

@@ -27,7 +27,8 @@ use Rattle.sums.proofs.Spans.{or_else-fine}
 use Rattle.model.specs.Rival.{Binds}
 use Rattle.model.proofs.Sound.{passed}
 use Rattle.model.proofs.Demand.{demand3}
-use Rattle.data_tests.proofs.Passed.{laid-counts, outcome-fine, refused-by, passed-by, in_two, passes}
+use Rattle.tables.proofs.Steps.{outcome-fine}
+use Rattle.data_tests.proofs.Passed.{laid-counts, refused-by, passed-by, in_two}
 use Rattle.plan_tests.specs.Tests.{plan_test}
 use Rattle.boards.specs.Boards.{after, board_after_check}
 use Rattle.epm.specs.Answers.{rows_and_cost}
@@ -61,7 +62,7 @@ module _ (D : Data) (N : ℕ) (x : Index → ℕ) where
 
   pub cost-answered : {o : Result (Unit {0}) Refusal} {s : Sum} {v : Result ℕ Refusal} → o ≡ outcome (rows_fault D N x) → o ≡ Ok tt → s ≡ cap (cost D x) → v ≡ ok_or s CostOffScale → v ≡ rows_and_cost D N x
   unfolding rows_and_cost cost_fault
-  cost-answered e q s v = passed_first (rows_fault D N x) (cost_fault D x) (cost D x) (passes e q) (v ∙ rw s (cost-capped (cost D x)))
+  cost-answered e q s v = passed_first (rows_fault D N x) (cost_fault D x) (cost D x) (outcome-fine _ e q) (v ∙ rw s (cost-capped (cost D x)))
 
 -- of data laid out, the number of columns
 pub columns-laid : (t : Tables) {l : List ℕ} {n : ℕ} → t.list.now ≡ l → n ≡ count (column_boxes t.counts) → n ≡ count (column_boxes (read l).counts)
@@ -89,7 +90,7 @@ module _ (l : List ℕ) (N : ℕ) (plan : List ℕ) where
   plan-passed {o} {a} {n} d e t q h =
       passed_first (data_fault l) _ _ d
       (rw (← in_two (scale_fault N) (plan_length_fault (read l) plan) (or_else (rows_fault (read l) N (entries (read l) plan)) (cost_fault (read l) (entries (read l) plan))))
-      (passed_first (or_else (scale_fault N) (plan_length_fault (read l) plan)) _ _ (outcome-fine _ (rw (← e) (sym t) ∙ q)) h))
+      (passed_first (or_else (scale_fault N) (plan_length_fault (read l) plan)) _ _ (outcome-fine _ refl (rw (← e) (sym t) ∙ q)) h))
 
 -- certify after check
 
@@ -130,7 +131,7 @@ post-after l N plan y board start e = rw e (go (check_fault l N plan))
 
 pub plan-whole : (N places columns : ℕ) {o : Result (Unit {0}) Refusal} → o ≡ plan_test N places columns → o ≡ Ok tt → places ≡ columns
 unfolding plan_test
-plan-whole N places columns e q = eqb-true places columns (passed _ _ (or_else-fine _ _ (passes e q)).1)
+plan-whole N places columns e q = eqb-true places columns (passed _ _ (or_else-fine _ _ (outcome-fine _ e q)).1)
 
 pub accepted-parts : (l : List ℕ) (N : ℕ) (plan : List ℕ) {c : ℕ} → check l N plan ≡ Ok c
     → (data_fault l ≡ fine) × (length plan ≡ count (column_boxes (read l).counts))

@@ -1,6 +1,6 @@
 // The published calls: check, certify and post. Each takes any lists, and answers on every input. Its contract says the answer in document 01's
-// number and values (`answer_code`, `certificate_code`), and as the `Result` that callers match on. Data, scale and plan are parameters and no struct: the C
-// calls hand them over one by one, and nothing is known of them before the tests.
+// number and values (`answer_code`, `certificate_code`), and as the `Result` that callers match on. Data, scale and plan, and post's year, board and start, are
+// parameters and no struct: the C calls hand them over one by one, and nothing is known of them before the tests.
 #![tactic(auto)]
 
 ghost use Rattle.std.specs.Prelude.{◌≡◌};

@@ -54,7 +54,7 @@ pub record ColumnsAt (plan columns-at : List ℕ) (c : Counts) : Type 0 where
   pub whole : length plan ≡ count (column_boxes c)
   pub starts : (k : ℕ) → k ≤ length column_sets → get_or columns-at k 0 ≡ start_from c column_sets 0 k
 
--- four indices inside the index set of code k
+-- four indices inside the index set of code k; a bound on an index depends on another parameter's counts, so it stands in `requires`
 pub record Inside (c : Counts) (k y i j s : ℕ) : Type 0 where
   pub year : y < (box_of (sets c) k).years
   pub «first» : i < (box_of (sets c) k).firsts

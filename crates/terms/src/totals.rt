@@ -22,6 +22,7 @@ pub fn total<F: Fn(usize) -> Sum>(n: usize, term: F) -> Sum
 }
 
 // The same of up to 2^32 - 1 numbers, each up to 2^32 - 1: a word holds their sum.
+// A loop here too: a `fold` was tried, and the proof that each turn's sum fits a word did not close.
 pub fn exact_total<F: Fn(usize) -> u64>(n: usize, term: F) -> u64
     requires few { n ≤ most32 }
     requires callable { (i : ℕ) → i < n → F.pre term i }
@@ -38,7 +39,7 @@ pub fn exact_total<F: Fn(usize) -> u64>(n: usize, term: F) -> u64
 
 // A product where a test holds, else 0.
 // The test is the condition under a sum (`on` of the definitions), and no switch: a closure that chooses a product or 0 takes five lines for this call.
-// Not by `capped::add_product_if`: a term alone would be written as a sum onto 0, and be compared with the limit twice.
+// Not by `capped::add_product_if`: a term alone would be written as a sum onto 0, with a comparison with the limit that a product does not need.
 pub fn product_if(test: bool, a: u64, b: u64) -> Sum
     ensures { result ≡ cap (on test (a * b)) }
 {

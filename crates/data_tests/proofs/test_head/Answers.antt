@@ -1,7 +1,8 @@
 use borrow.Author.Rules.{rules}
 use mathlib.Core.Path.{refl, sym, ap}
 use Rattle.model.specs.Calls.{outcome}
-use Rattle.data_tests.proofs.Passed.{passes, stopped, went_on, handed_on, head-short, head-long}
+use Rattle.tables.proofs.Steps.{outcome-fine}
+use Rattle.data_tests.proofs.Passed.{stopped, went_on, handed_on, head-short, head-long}
 use Rattle.data_tests.proofs.test_head.Goals as goal
 
 pub returns-then-data-lt7 : goal.returns-then-data-lt7
@@ -13,4 +14,4 @@ returns-in_err-test_counts c =
 
 pub returns : goal.returns
 returns c =
-    went_on _ _ (head-long _ c.if-data-lt7.false) (went_on _ _ (passes c.test_counts.ensures c.in_ok-test_counts.was) c.test_length.ensures)
+    went_on _ _ (head-long _ c.if-data-lt7.false) (went_on _ _ (outcome-fine _ c.test_counts.ensures c.in_ok-test_counts.was) c.test_length.ensures)

@@ -1,7 +1,5 @@
 use Rattle.model.specs.Calls.{outcome}
 use mathlib.Core.Path.{refl, sym, ap, ◌∙◌}
-use Prim.Native.Nat.{◌<◌}
-use lib.ListN.{length}
 use native.Mathlib.Omega.{arith}
 use Rattle.sums.proofs.Spans.{upto-stop}
 use Rattle.model.specs.Data.{read}
@@ -9,7 +7,7 @@ use Rattle.model.specs.Tests.{unless}
 use Rattle.tables.specs.Layout.{table_sets}
 use Rattle.tables.proofs.Laws.{start-zero}
 use Rattle.tables.proofs.Walk.{begun, turned, ended}
-use Rattle.entry_tests.proofs.Entries.{all-tables, next-table, box-faults, place-below, tested}
+use Rattle.entry_tests.proofs.Entries.{all-tables, next-table, box-faults, turn, place-below, tested}
 use Rattle.entry_tests.proofs.test_entries.Goals as goal
 
 pub walk-init : goal.walk-init
@@ -30,16 +28,25 @@ pub loop-s-init : goal.loop-s-init
 loop-s-init c = begun c.loop-j.invariant.going c.loop-j.invariant.here
 
 pub offset_bounds-tables-place : goal.offset_bounds-tables-place
-offset_bounds-tables-place c = let below : c.loop-s.place < length c.args.tables.now.list.now = place-below c.args.tables.now.laid_out c.walk-test.true c.table_box-b.ensures.0
-    c.loop-y-test.true c.loop-i-test.true c.loop-j-test.true c.loop-s-test.true c.loop-s.invariant.here in omega (arith, below)
+offset_bounds-tables-place c = omega (
+  arith,
+  place-below c.args.tables.now.laid_out c.walk-test.true c.table_box-b.ensures.0
+      c.loop-y-test.true c.loop-i-test.true c.loop-j-test.true c.loop-s-test.true c.loop-s.invariant.here,
+)
 
 pub bounds-tables-place : goal.bounds-tables-place
-bounds-tables-place c = let below : c.loop-s.place < length c.args.tables.now.list.now = place-below c.args.tables.now.laid_out c.walk-test.true c.table_box-b.ensures.0
-    c.loop-y-test.true c.loop-i-test.true c.loop-j-test.true c.loop-s-test.true c.loop-s.invariant.here in omega (arith, below)
+bounds-tables-place c = omega (
+  arith,
+  place-below c.args.tables.now.laid_out c.walk-test.true c.table_box-b.ensures.0
+      c.loop-y-test.true c.loop-i-test.true c.loop-j-test.true c.loop-s-test.true c.loop-s.invariant.here,
+)
 
 pub overflow_add-place : goal.overflow_add-place
-overflow_add-place c = let below : c.loop-s.place < length c.args.tables.now.list.now = place-below c.args.tables.now.laid_out c.walk-test.true c.table_box-b.ensures.0
-    c.loop-y-test.true c.loop-i-test.true c.loop-j-test.true c.loop-s-test.true c.loop-s.invariant.here in omega (arith, below)
+overflow_add-place c = omega (
+  arith,
+  place-below c.args.tables.now.laid_out c.walk-test.true c.table_box-b.ensures.0
+      c.loop-y-test.true c.loop-i-test.true c.loop-j-test.true c.loop-s-test.true c.loop-s.invariant.here,
+)
 
 pub loop-s-preserved : goal.loop-s-preserved
 unfolding unless
@@ -52,30 +59,18 @@ loop-s-preserved c =
     turned v.invariant c.loop-s-test.true v.invariant.going (entry ∙ rw (c.if-not-in_range.false)) (omega (arith, v.invariant.here))
 
 pub loop-j-preserved : goal.loop-j-preserved
-loop-j-preserved c =
-    let i = c.loop-s in
-    let e = ended i.invariant c.loop-s-test.false in
-    turned c.loop-j.invariant c.loop-j-test.true i.invariant.going e.0 (omega (arith, e.1))
+loop-j-preserved c = turn c.loop-j.invariant c.loop-j-test.true c.loop-s.invariant c.loop-s-test.false refl (omega arith)
 
 pub loop-i-preserved : goal.loop-i-preserved
-loop-i-preserved c =
-    let i = c.loop-j in
-    let e = ended i.invariant c.loop-j-test.false in
-    turned c.loop-i.invariant c.loop-i-test.true i.invariant.going e.0 (omega (arith, e.1))
+loop-i-preserved c = turn c.loop-i.invariant c.loop-i-test.true c.loop-j.invariant c.loop-j-test.false refl (omega arith)
 
 pub loop-y-preserved : goal.loop-y-preserved
-loop-y-preserved c =
-    let i = c.loop-i in
-    let e = ended i.invariant c.loop-i-test.false in
-    turned c.loop-y.invariant c.loop-y-test.true i.invariant.going e.0 (omega (arith, e.1))
+loop-y-preserved c = turn c.loop-y.invariant c.loop-y-test.true c.loop-i.invariant c.loop-i-test.false refl (omega arith)
 
 pub walk-preserved : goal.walk-preserved
 walk-preserved c =
-    let i = c.loop-y in
-    let e = ended i.invariant c.loop-y-test.false in
-    turned c.walk.invariant c.walk-test.true i.invariant.going
-    (box-faults c.args.tables.now.laid_out c.walk-test.true c.table_box-b.ensures.0 ∙ e.0)
-    (e.1 ∙ next-table c.args.tables.now.laid_out c.walk-test.true c.table_box-b.ensures.0)
+    turn c.walk.invariant c.walk-test.true c.loop-y.invariant c.loop-y-test.false (box-faults c.args.tables.now.laid_out c.walk-test.true c.table_box-b.ensures.0)
+    (next-table c.args.tables.now.laid_out c.walk-test.true c.table_box-b.ensures.0)
 
 pub returns-after-walk : goal.returns-after-walk
 returns-after-walk c =
