@@ -1,12 +1,7 @@
 use native.Mathlib.Nat.{add-sub_cancel_left}
 use native.Mathlib.Omega.{arith}
-use Rattle.hour_costs.proofs.Laws.{some-slices, slices-inside, slices-fit, slices-are}
+use Rattle.hour_costs.proofs.Laws.{slices-fit, slices-are}
 use Rattle.hour_costs.proofs.slices_at.Goals as goal
-
-pub inside_of-first-requires : goal.inside_of-first-requires
-inside_of-first-requires c =
-    let plan = c.args.plan.now in
-    (plan.counted, slices-inside plan c.requires c.column_set.ensures (some-slices plan c.requires))
 
 pub overflow_add-start : goal.overflow_add-start
 overflow_add-start c =

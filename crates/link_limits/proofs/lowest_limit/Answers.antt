@@ -1,4 +1,4 @@
-use Rattle.link_limits.proofs.Laws.{lowest-one, lowest-more, lowest-all}
+use Rattle.link_limits.proofs.Laws.{lowest-one, lowest-more}
 use borrow.Author.Rules.{rules}
 use Rattle.link_limits.proofs.lowest_limit.Goals as goal
 
@@ -8,6 +8,3 @@ loop-q-init c = lowest-one (search rules) c.by_link_season-lowest.ensures.0 c.by
 pub loop-q-preserved : goal.loop-q-preserved
 loop-q-preserved c =
     lowest-more c.loop-q.invariant c.loop-q-test.true c.by_link_season.ensures.0 (search rules)
-
-pub returns : goal.returns
-returns c = (lowest-all c.loop-q.invariant c.loop-q-test.false, c.loop-q.invariant.few)

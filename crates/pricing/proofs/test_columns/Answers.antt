@@ -1,14 +1,9 @@
-use mathlib.Core.Path.{refl, ap, ◌∙◌}
+use mathlib.Core.Path.{refl, ◌∙◌}
 use native.Mathlib.Omega.{arith}
-use lib.ListN.{get_or}
-use Rattle.sums.specs.Index.{box_of}
-use Rattle.model.specs.declared.Counts.{Counts}
-use Rattle.model.specs.Counts.{sets}
-use Rattle.model.specs.Columns.{column_sets}
 use Rattle.tables.proofs.Steps.{none, more, turn, walked_none, walked_more, walked_all}
 use Rattle.tables.proofs.Steps.{member-number, member_below, stopped, outcome-fine, outcome-fails}
 use Rattle.column_terms.proofs.Laws.{counts_of}
-use Rattle.pricing.proofs.Steps.{table_below, tables_end, columns-fit, box-is, column-member, first_below, second_below, year-below, answered}
+use Rattle.pricing.proofs.Steps.{table_below, tables_end, columns-fit, box-is, column-member, answered}
 use Rattle.pricing.proofs.test_columns.Goals as goal
 
 pub walk-init : goal.walk-init
@@ -22,13 +17,6 @@ loop-i-init c = none c.loop-y.invariant.accepted
 
 pub loop-j-init : goal.loop-j-init
 loop-j-init c = none c.loop-i.invariant.accepted
-
-pub unit_price-unit-requires : goal.unit_price-unit-requires
-unit_price-unit-requires c =
-    let p = c.args.pricing.now in
-    let l = c.walk-test.true in
-    let b = c.column_box-b.ensures.0 ∙ ap (λ (d : Counts). box_of (sets d) (get_or column_sets c.walk.k 0)) p.same_counts in
-    (l, (year-below _ l b p.tested.tables.now.laid_out.counted c.loop-y-test.true, (first_below _ l b c.loop-i-test.true, second_below _ l b c.loop-j-test.true)))
 
 pub loop-s-init : goal.loop-s-init
 loop-s-init c = none c.loop-j.invariant.accepted

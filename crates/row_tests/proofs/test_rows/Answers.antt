@@ -3,7 +3,7 @@ use native.Mathlib.Omega.{arith}
 use Rattle.model.specs.declared.Family.{Family}
 use Rattle.tables.proofs.Steps.{none, more, turn, walked_none, walked_more, walked_all}
 use Rattle.tables.proofs.Steps.{member-number, member_below, stopped, outcome-fine, outcome-fails}
-use Rattle.row_tests.proofs.Steps.{box-is, inside_is, year-below, family-below, families-end, rows_fit, answered}
+use Rattle.row_tests.proofs.Steps.{box-is, inside_is, family-below, families-end, rows_fit, answered}
 use Rattle.row_tests.proofs.test_rows.Goals as goal
 
 pub walk-init : goal.walk-init
@@ -20,11 +20,6 @@ loop-j-init c = none c.loop-i.invariant.accepted
 
 pub loop-s-init : goal.loop-s-init
 loop-s-init c = none c.loop-j.invariant.accepted
-
-pub year_of-year-requires : goal.year_of-year-requires
-year_of-year-requires c =
-    let y = year-below _ c.walk-test.true c.family_at-f.ensures c.box_of-b.ensures.0 c.args.tested.now.case.now.plan.counted c.loop-y-test.true in
-    y
 
 pub test_row-requires : goal.test_row-requires
 test_row-requires c =

@@ -1,7 +1,6 @@
 use mathlib.Core.Path.{refl, sym, ◌∙◌}
 use native.Mathlib.Omega.{arith}
 use Rattle.model.specs.Standing.{level_in⁺, level_in⁻}
-use Rattle.tables.proofs.Laws.{few-slices}
 use Rattle.column_terms.proofs.Laws.{counts_of, plant-ramp, none-priced, add-priced, take-priced, take-priced-if, priced-as}
 use Rattle.column_terms.proofs.Sound.{next-ramp}
 use Rattle.storage_columns.proofs.level_column.Goals as goal
@@ -11,9 +10,6 @@ unfolding level_in⁺ level_in⁻
 returns-then-not-is_battery c =
     let other = sym c.is_battery.ensures ∙ c.if-not-is_battery.true in
     priced-as (take-priced (none-priced c.none.ensures) c.take_row-limit.ensures) _ _ (λ m. rw other (omega arith)) (λ m. rw other (omega arith))
-
-pub overflow_add-next : goal.overflow_add-next
-overflow_add-next c = record { fits = omega (arith, few-slices c.args.pricing.now.multipliers.counted, c.requires.1.1) }
 
 pub take_row_if-requires : goal.take_row_if-requires
 take_row_if-requires c = λ e. (next-ramp (plant-ramp c.requires {k = 20} (omega arith) refl) (sym c.after_first_hour-carried.ensures ∙ e)).own

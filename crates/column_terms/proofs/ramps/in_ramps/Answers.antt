@@ -1,13 +1,9 @@
 use mathlib.Core.Path.{sym, ◌∙◌}
 use native.Mathlib.Omega.{arith}
-use Rattle.tables.proofs.Laws.{few-slices}
 use Rattle.column_terms.specs.Ramps.{in_ramps}
 use Rattle.column_terms.proofs.Laws.{none-priced, add-priced-if, take-priced-if, priced-as}
-use Rattle.column_terms.proofs.Sound.{ramp-slice, next-ramp}
+use Rattle.column_terms.proofs.Sound.{next-ramp}
 use Rattle.column_terms.proofs.ramps.in_ramps.Goals as goal
-
-pub overflow_add-next : goal.overflow_add-next
-overflow_add-next c = record { fits = omega (arith, few-slices c.args.multipliers.now.counted, ramp-slice c.requires.0) }
 
 pub add_row_if-requires-2 : goal.add_row_if-requires-2
 add_row_if-requires-2 c = λ e. (next-ramp c.requires.1 (sym c.after_first_hour-later.ensures ∙ e)).own

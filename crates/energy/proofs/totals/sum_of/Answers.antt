@@ -1,9 +1,8 @@
 use mathlib.Core.Path.{refl, sym, ◌∙◌}
 use mathlib.Core.Bool.{true, false}
-use native.Mathlib.Omega.{arith}
 use borrow.Author.Rules.{rules}
 use Rattle.energy.specs.Energies.{all_if}
-use Rattle.energy.proofs.Laws.{all_more, all_done}
+use Rattle.energy.proofs.Laws.{all_more}
 use Rattle.energy.proofs.totals.sum_of.Goals as goal
 use Rattle.energy.proofs.totals.sum_of.Goals.{then-test, else-test}
 
@@ -22,6 +21,3 @@ loop-i-preserved g c =
             | else-test w ↦ all_more {t = f c.loop-i.i} {b = false} c.loop-i.i p f w.sum-is before (sym w.if-test.false ∙ h _ _ l c.test.ensures) refl
           ],
     )
-
-pub returns : goal.returns
-returns g c = λ p f h k. all_done p f (c.loop-i.invariant.1 p f h k) (omega arith)

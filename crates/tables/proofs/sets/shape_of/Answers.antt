@@ -1,15 +1,11 @@
 use native.Mathlib.Omega.{arith}
-use mathlib.Core.Path.{refl, ◌∙◌}
+use mathlib.Core.Path.{◌∙◌}
 use lib.ListN.{length-set}
 use borrow.Author.Rules.{rules}
-use borrow.Author.Count.{below_none}
 use Rattle.sums.specs.Index.{box_of, volume}
 use Rattle.model.specs.Families.{row_boxes}
 use Rattle.tables.proofs.Laws.{stored, size_is, shape_is}
 use Rattle.tables.proofs.sets.shape_of.Goals as goal
-
-pub loop-k-init : goal.loop-k-init
-loop-k-init c = (search rules, refl, below_none _)
 
 pub loop-k-preserved : goal.loop-k-preserved
 loop-k-preserved c =

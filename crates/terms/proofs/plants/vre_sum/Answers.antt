@@ -1,6 +1,6 @@
 use mathlib.Core.Path.{◌∙◌}
 use Rattle.sums.proofs.Tests.{on_both}
-use Rattle.terms.proofs.Laws.{plus-on, summed-none, summed-more, summed-all}
+use Rattle.terms.proofs.Laws.{plus-on, summed-none, summed-more}
 use Rattle.terms.proofs.plants.vre_sum.Goals as goal
 
 pub loop-g-init : goal.loop-g-init
@@ -13,6 +13,3 @@ loop-g-preserved c =
     let vre-is = c.is_vre.ensures in
     let entry-is = c.part_at.ensures.0 in
     summed-more h c.loop-g-test.true (c.add_product_if-sum.ensures ∙ rw (h.is, plus-on, on_both, zone-is, vre-is, entry-is))
-
-pub returns : goal.returns
-returns c = summed-all c.loop-g.invariant c.loop-g-test.false

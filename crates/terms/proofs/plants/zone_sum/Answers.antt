@@ -1,5 +1,5 @@
 use mathlib.Core.Path.{◌∙◌}
-use Rattle.terms.proofs.Laws.{plus-on, summed-none, summed-more, summed-all}
+use Rattle.terms.proofs.Laws.{plus-on, summed-none, summed-more}
 use Rattle.terms.proofs.plants.zone_sum.Goals as goal
 
 pub loop-g-init : goal.loop-g-init
@@ -11,6 +11,3 @@ loop-g-preserved c =
     let zone-is = c.by_plant.ensures.0 in
     let entry-is = c.part_at.ensures.0 in
     summed-more h c.loop-g-test.true (c.add_product_if-sum.ensures ∙ rw (h.is, zone-is, entry-is, plus-on))
-
-pub returns : goal.returns
-returns c = summed-all c.loop-g.invariant c.loop-g-test.false
