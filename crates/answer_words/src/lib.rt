@@ -24,7 +24,7 @@ pub struct Inputs<'a> {
     pub multipliers: &'a [i64],
 }
 
-// The words of the refusals, by number; there is no refusal 0. They stand in the order of document 01's numbers, as `refusal_names` has them,
+// The words of the refusals, by number; there is no refusal 0. They stand in the order of the numbers of documents 01 and 02, as `refusal_names` has them,
 // and the number is what the certify program prints: a `match` would name each refusal a second time beside `code_of`.
 const REFUSAL_NAMES: [&str; 17] = [
     "",

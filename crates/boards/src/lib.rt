@@ -1,5 +1,6 @@
 // What post does after check: refusal 14, and the year's outputs on the board.
-// `check` hands back a cost and no tables, so the lists come bare, with what its tests showed: the counts are read again, and the plan is laid out again.
+// `check` answers a cost and no tables, as document 01 has its answer; so the lists come bare, with what its tests showed: the counts are read again, and the
+// plan is laid out again.
 // Data, plan, year, board and start are parameters and no struct: the C call of post hands them over one by one.
 #![tactic(auto)]
 

@@ -1,6 +1,5 @@
 // The columns cap, build and retire.
-// An index is asked below its count where it is handed in: a struct of a plant's indices would be made at each call and hold the same fact,
-// and the columns would no longer name their indices as the document does.
+// An index is asked below its count: the reason stands beside `Inside` (tables/specs/Layout.antt).
 #![tactic(auto)]
 
 ghost use Rattle.std.specs.Prelude.{◌≡◌, ◌<◌};

@@ -135,3 +135,13 @@ pub fn add_product_if(on: bool, s: Sum, a: u64, b: u64) -> Sum
     }
     s
 }
+
+// The same of three factors.
+pub fn add_product3_if(on: bool, s: Sum, a: u64, b: u64, c: u64) -> Sum
+    ensures { result ≡ plus_if on s (a * b * c) }
+{
+    if on {
+        return add_product3(s, a, b, c);
+    }
+    s
+}

@@ -17,7 +17,7 @@ use tables::lists::TestedTables;
 use tables::sets::shape_of;
 
 // Refusals 9 to 13 beside a cost that check answered, or the certificate.
-// `check` hands back a cost and no tables, so the list comes bare, with what its tests showed, and the tables are laid out again.
+// `check` answers a cost and no tables, as document 01 has its answer; so the list comes bare, with what its tests showed, and the tables are laid out again.
 pub fn issue<'a>(
     data: &'a [u32],
     scale: u32,

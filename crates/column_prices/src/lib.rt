@@ -1,4 +1,5 @@
 // The price of a column in two factors: the price of a unit, or of a unit's hour, which does not change along the slices; and the hours.
+// An index is asked below its count: the reason stands beside `Inside` (tables/specs/Layout.antt).
 #![tactic(auto)]
 
 ghost use Rattle.std.specs.Prelude.{◌≡◌, ◌<◌};

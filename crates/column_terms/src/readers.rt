@@ -1,6 +1,5 @@
 // What the columns read in common: a plant's zone and fuel, the conditions of the rows, and the coefficients that are products.
-// An index is asked below its count where it is handed in: a struct of a plant's or a link's indices would be made at each call and hold the same fact,
-// and the columns would no longer name their indices as the document does.
+// An index is asked below its count: the reason stands beside `Inside` (tables/specs/Layout.antt).
 ghost use Rattle.std.specs.Prelude.{◌≡◌, ◌*◌, ◌-◌, ◌%◌, ◌<◌, ltb};
 ghost use Rattle.model.specs.Counts.{slices_of};
 ghost use Rattle.model.specs.Data.{zone, fuel, on_min_load_day, duration, availability, rate, weight, annuity, loss};

@@ -38,8 +38,7 @@ const CONSTANT_FAMILIES: [bool; FAMILY_COUNT] = [
     false, // 28 lines both ways
 ];
 
-// `table_set`, `column_set` and `most_count` read a table in the same way: each gives its table the name by which the definitions know it, and one function
-// for all would ask for the table.
+// One of six readers of a fixed table: the reason stands beside `table_set` (tables/src/starts.rt).
 #[tactic(auto, unfolding(crate::specs::Constants::has_constant))]
 pub fn has_constant(k: usize) -> bool
     requires { k < family_count }

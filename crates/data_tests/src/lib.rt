@@ -17,7 +17,7 @@ use tables::starts::table_starts;
 // The largest that each count may be.
 const MOST_COUNTS: [u32; 7] = [8, 32, 8, 4, 4, 24, 10];
 
-// Its shape is that of `table_set` and `column_set`: each gives a fixed table the name of the definitions. One lookup for all would only ask for the table.
+// One of six readers of a fixed table: the reason stands beside `table_set` (tables/src/starts.rt).
 pub fn most_count(i: usize) -> u32
     requires { i < 7 }
     ensures { result ≡ get_or most_counts i 0 }

@@ -66,6 +66,9 @@ fn sum_of<P: Fn(usize) -> bool, F: Fn(usize) -> Sum>(n: usize, test: P, term: F)
     sum
 }
 
+// `tables` and `energy` stand side by side, here and below: these functions promise their sums of any table of energies, so that no fact ties it to the data,
+// and a struct without one would be made at each call.
+
 // factor·Σ of a plant's energies over the seasons of year y.
 fn year_energy(tables: &Tables, energy: &EnergyTable, factor: u64, y: usize, g: usize) -> Sum
     requires { (y < tables.now.counts.years) × (g < tables.now.counts.plants) }

@@ -1,4 +1,5 @@
 // Families 12, 15 to 20 and 25: the constants of the rows of the fleet.
+// An index is asked below its count: the reason stands beside `Inside` (tables/specs/Layout.antt).
 #![tactic(auto, unfolding(constants::specs::Constants::constant_of))]
 
 ghost use Rattle.std.specs.Prelude.{◌≡◌, ◌<◌};

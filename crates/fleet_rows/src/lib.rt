@@ -1,4 +1,5 @@
 // Families 12 to 20: the rows of the fleet: capacity, builds, fuel, capital and emissions.
+// An index is asked below its count: the reason stands beside `Inside` (tables/specs/Layout.antt).
 #![tactic(auto, unfolding(row_sums::specs::Sides::sides_of, row_sums::specs::Sides::sides_with, constants::specs::Constants::constant_of), using(row_sums::proofs::Laws::exact_sums))]
 
 ghost use Rattle.std.specs.Prelude.{◌≡◌, not, ℕ, ◌<◌};
@@ -22,7 +23,8 @@ use terms::years::{earlier, over_years};
 
 // `case` and `scale` stand together where a row has a constant: the scale is handed beside the case, as N stands in the document's rows.
 // A row without a constant is the same at every scale and takes none.
-// `tables` and `energy` stand together below: `Energies` is a premise of the promise. A struct that held the fact would ask it of every caller.
+// `tables` and `energy` stand together below: that these are the data's energies (`Energies`) is a premise of the promise, and not asked. A struct that held the
+// fact, as `rows::years::TestedCase` of the one caller does, would ask it.
 
 // 12 (34): existing, first year: cap = GenCap; later: cap = earlier cap − retire. Candidate: cap = earlier cap (0 in the first year) + build
 pub fn stock(case: &Case, scale: u64, y: usize, g: usize) -> Sides

@@ -1,4 +1,5 @@
 // The cost in one year of the tables that are priced by the hour.
+// An index is asked below its count: the reason stands beside `Inside` (tables/specs/Layout.antt).
 #![tactic(auto)]
 
 ghost use Rattle.std.specs.Prelude.{◌≡◌, ℕ, ◌+◌, ◌*◌, ◌≤◌, ◌<◌, length, get_or, take, drop};
@@ -19,7 +20,7 @@ use tables::sets::{inside_of, slices_of};
 use tables::starts::{column_box, column_set};
 use terms::totals::total;
 
-// The slices of plant or zone i in year y: a part of the plan. `peaks` takes a part of the data: what the two share is one slice expression.
+// The slices of plant or zone i in year y: a part of the plan. `peaks` takes a part of the data by the same four lines, and says there why no method serves both.
 #[tactic(auto, using(column_prices::proofs::Laws::column_laws))]
 fn slices_at<'a>(plan: &Plan<'a>, t: usize, y: usize, i: usize) -> &'a [u32]
     requires { Hours plan.now.counts t y i }
@@ -32,7 +33,7 @@ fn slices_at<'a>(plan: &Plan<'a>, t: usize, y: usize, i: usize) -> &'a [u32]
     &plan.list[start..end]
 }
 
-// Σ Dur·entry over the slices of a part.
+// Σ Dur·entry over the slices of a part. The part is a bare slice, so its length is asked: a struct that held it would be made for this one call.
 fn weighted_hours(tables: &Tables, part: &[u32]) -> Sum
     requires { length part.now ≡ slices_of tables.now.counts }
     ensures { result ≡ cap (sum (slices_of tables.now.counts) (λ s. duration (data_of tables.now) s * get_or part.now s 0)) }

@@ -1,4 +1,5 @@
 // What flows over the links of a zone, and what its lines may carry: sums over the other zones.
+// An index is asked below its count: the reason stands beside `Inside` (tables/specs/Layout.antt).
 #![tactic(auto)]
 
 ghost use Rattle.std.specs.Prelude.{◌≡◌, not, ◌*◌, ◌-◌, ◌<◌, eqb};

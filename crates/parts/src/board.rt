@@ -3,6 +3,7 @@ ghost use Rattle.std.specs.Prelude.{◌≡◌, ◌+◌, ◌≤◌, length};
 ghost use Rattle.model.specs.Calls.{replaced};
 
 // The outputs replace the board's places from `start` on; every other place keeps its number.
+// Board, start and outputs are parameters and no struct, which would be made for this one call: the C call of post hands board and start over singly.
 pub fn replace(board: &mut [u32], start: usize, outputs: &[u32])
     requires { start + length outputs.now ≤ length board.old }
     ensures { board.new ≡ replaced board.old start outputs.now }

@@ -1,4 +1,5 @@
 // The peak demand of a year and zone.
+// An index is asked below its count: the reason stands beside `Inside` (tables/specs/Layout.antt).
 #![tactic(auto)]
 
 ghost use Rattle.std.specs.Prelude.{◌≡◌, ◌≤◌, ◌<◌, max, length, get_or};
@@ -26,7 +27,8 @@ fn peak_of(demand: &[u32]) -> u32
     earlier.max(later)
 }
 
-// The largest Demand[y,z,·], over a part of the data. `hour_costs` takes a part of the plan: what the two share is one slice expression.
+// The largest Demand[y,z,·], over a part of the data. `hour_costs` takes a part of the plan by the same four lines. One method of `Entries` for both would need
+// the list and its starts as methods there: more lines than the four, with laws of their own.
 #[tactic(auto, using(crate::proofs::Laws::part_below))]
 pub fn zone_peak(tables: &Tables, y: usize, z: usize) -> u64
     requires { (y < tables.now.counts.years) × (z < tables.now.counts.zones) }

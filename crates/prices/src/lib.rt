@@ -1,4 +1,5 @@
 // The cost of a plan: Σ price·entry over all columns, year by year.
+// An index is asked below its count: the reason stands beside `Inside` (tables/specs/Layout.antt).
 #![tactic(auto)]
 
 ghost use Rattle.std.specs.Prelude.{◌≡◌, ◌<◌};

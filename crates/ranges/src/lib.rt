@@ -15,7 +15,7 @@ use tables::names::{
     FUEL, GEN_CAP, LINE_ANNUITY, LINE_LIMIT, MAX_NEW_CAP, MW_PER_LINE, TL, YEAR, ZONE,
 };
 
-// No `RangeInclusive` of the library: that is an iterator and no `Copy`, and could not stand in a fixed table.
+// No `RangeInclusive` of the library: that is an iterator and no `Copy`, so each read of the fixed table would clone it.
 #[derive(Clone, Copy)]
 pub struct Range {
     pub least: u32,
@@ -45,7 +45,8 @@ const ZERO: Range = Range { least: 0, most: 0 };
 // In place of a range that depends on the indices: `range_at` does not read it.
 const BY_INDEX: Range = ZERO;
 
-// The range of each table whose entries have one range. A table of its own beside that of the index sets: the readers of `tables`, below this crate, need no ranges.
+// The range of each table whose entries have one range. A table of its own beside that of the index sets: the readers of `tables`, below this crate, need no
+// ranges.
 const FIXED: [Range; TABLE_COUNT] = [
     PER_MILLE, // 0 return rate
     Range { least: 1, most: 20 }, // 1 weight
@@ -112,6 +113,7 @@ const FIXED: [Range; TABLE_COUNT] = [
     BY_INDEX, // 47 line annuity
 ];
 
+// One of six readers of a fixed table: the reason stands beside `table_set` (tables/src/starts.rt).
 fn fixed_range(t: usize) -> Range
     requires { t < table_count }
     ensures { result ≡ get_or fixed t by_index }

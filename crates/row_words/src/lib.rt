@@ -126,7 +126,7 @@ pub fn say_broken(line: &mut Line<ROOM>, data: &[u32], scale: u32, plan: &[u32],
     );
 }
 
-// A row whose multiplier is out of range.
+// A row whose multiplier is out of range. `data, multipliers` come singly, as above.
 pub fn say_multiplier(line: &mut Line<ROOM>, data: &[u32], multipliers: &[i64], row: usize)
     requires { OfMultiplier «data».now multipliers.now row }
     ensures { line.new ≡ added room line.old (multiplier_words (read «data».now) multipliers.now row) }

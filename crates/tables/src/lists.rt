@@ -1,8 +1,10 @@
 // The lists that a caller hands over, each with its counts and the starts of its tables: the data and the plan, read by table and index.
-// There is a reader for each index set by which a table is read alone, named as the documents write it: `by_plant(GEN_CAP, g)` is GenCap[g]. Each is its index set's code handed to `entry_in`,
-// which does the reading. With the code a constant, inlining leaves a few products and one read; so no reader looks the code up by its table.
+// There is a reader for each index set by which a table is read alone, named as the documents write it: `by_plant(GEN_CAP, g)` is GenCap[g].
+// Each is its index set's code handed to `entry_in`, which does the reading. With the code a constant, inlining leaves a few products and one read; so no
+// reader looks the code up by its table.
 // Readers of the same shape, as `by_plant` and `by_zone`, are not one with the code handed in: that is `entry_in`, at which a caller has to know that the
 // two indices of `by_year_plant` are the first and the second of four, and `by_day`'s the second and the third.
+// Each asks its indices below their counts (`EntryAt`): the reason stands beside `Inside` (specs/Layout.antt).
 ghost use Rattle.std.specs.Prelude.{◌≡◌, List, ℕ, ◌+◌, ◌≤◌, ◌<◌, length, get_or};
 ghost use Rattle.sums.specs.Span.{fine};
 ghost use Rattle.model.specs.Columns.{column_sets};
@@ -109,7 +111,8 @@ pub trait Entries {
     }
 }
 
-// The two bodies below are the same two lines: each is proved from what is known of its own list.
+// The two bodies below are the same two lines: each is proved from what is known of its own list. One body in `Entries` would need the list, its counts and
+// its starts as three methods more, and a law of what they say together.
 impl Entries for Tables<'_> {
     ghost use Rattle.tables.specs.Lists.{data_of};
 

@@ -1,5 +1,5 @@
 // The tables' numbers: in the data list, and in the plan. Numbers and no enum: each is a place in the lists of index sets, ranges and starts, and the walks over
-// all tables count with them.
+// all tables count with them. An enum would need an arm for each of the 48 and the 14, to make one of a loop's number.
 pub const RATE: usize = 0;
 
 pub const WEIGHT: usize = 1;

@@ -192,6 +192,7 @@ const FAMILIES: [Family; FAMILY_COUNT] = [
     },
 ];
 
+// One of six readers of a fixed table: the reason stands beside `table_set` (starts.rt).
 pub fn family_at(k: usize) -> Family
     requires { k < family_count }
     ensures { result ≡ family_of k }

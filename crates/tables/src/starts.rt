@@ -95,8 +95,9 @@ const COLUMN_SETS: [usize; COLUMN_KIND_COUNT] = [
     BY_LINK, // 13 total
 ];
 
-// Two readers of two fixed tables, as `family_at` (sets.rt), `fixed_range` (ranges), `has_constant` (constants) and `most_count` (data_tests) read one each: each
-// has its definition's name and range, and one for all would be handed the fixed table, which no caller has. The same of the two boxes and starts below.
+// Two readers of two fixed tables, as `family_at` (sets.rt), `fixed_range` (ranges), `has_constant` (constants) and `most_count` (data_tests) read one each.
+// Each reads one table of the definitions, below that table's own bound; one for all would be handed the fixed table, which no caller has.
+// The same of the two boxes and starts below.
 
 // The code of the index set of a table of the data.
 pub fn table_set(t: usize) -> usize

@@ -16,7 +16,7 @@ fn digit_of(b: u8) -> Option<u64>
     }
 }
 
-// The number that the digits write.
+// The number that the digits write. A loop and no `try_fold`: as long, and its `?` shows that a byte which is no digit ends it.
 fn number_of(digits: &[u8]) -> Option<u64>
     requires { length digits.now ≤ 16 }
     ensures { result ≡ digits_at digits.now 0 (length digits.now) }

@@ -1,4 +1,5 @@
 // The prices that the columns take theirs from: of a MW and of a line by the year, and of an hour.
+// An index is asked below its count: the reason stands beside `Inside` (tables/specs/Layout.antt).
 #![tactic(auto)]
 
 ghost use Rattle.std.specs.Prelude.{◌≡◌, ◌+◌, ◌<◌, ltb};

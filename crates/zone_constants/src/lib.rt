@@ -1,4 +1,5 @@
 // Families 1 to 4 and 27: the constants of the rows of a zone and of a pair of zones.
+// An index is asked below its count: the reason stands beside `Inside` (tables/specs/Layout.antt).
 #![tactic(auto, unfolding(constants::specs::Constants::constant_of))]
 
 ghost use Rattle.std.specs.Prelude.{◌≡◌, ◌<◌};

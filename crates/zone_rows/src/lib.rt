@@ -1,4 +1,5 @@
 // Families 1 to 4: the rows of a zone.
+// An index is asked below its count: the reason stands beside `Inside` (tables/specs/Layout.antt).
 #![tactic(auto, unfolding(row_sums::specs::Sides::sides_of, row_sums::specs::Sides::sides_with, constants::specs::Constants::constant_of), using(row_sums::proofs::Laws::exact_sums))]
 
 ghost use Rattle.std.specs.Prelude.{◌≡◌, ℕ, ◌+◌, ◌*◌, ◌<◌, eqb, length};
