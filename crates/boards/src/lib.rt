@@ -16,7 +16,7 @@ ghost use Rattle.boards.specs.Boards.{after, board_after_check};
 use data_tests::counts_of;
 use model::Refusal;
 use parts::board::replace;
-use parts::years::year_part;
+use parts::years::plan_part;
 use plan_tests::{board_fits, lay_out_plan};
 use tables::names::GEN;
 use tables::sets::slices_of;
@@ -41,7 +41,7 @@ fn put_year(
         return Err(Refusal::Board);
     }
     let plan = lay_out_plan(plan, counts);
-    replace(board, start, year_part(&plan, GEN, year));
+    replace(board, start, plan_part(&plan, GEN, year));
     Ok(cost)
 }
 

@@ -11,17 +11,17 @@ use tables::lists::Plan;
 use tables::sets::slices_of;
 
 // The part of year y of a kind of column by year, plant and slice.
-pub fn year_part<'a>(plan: &Plan<'a>, t: usize, y: usize) -> &'a [u32]
+pub fn plan_part<'a>(plan: &Plan<'a>, t: usize, y: usize) -> &'a [u32]
     requires { (t < column_kind_count) × ((get_or column_sets t 0 ≡ [ygs]) × (y < plan.now.counts.years)) }
     ensures part { YearPart plan.now.list.now result.now plan.now.counts t y }
     ensures lies { result.now ≡ take (plan.now.counts.plants * slices_of plan.now.counts) (drop (get_or plan.now.starts t 0 + y * (plan.now.counts.plants * slices_of plan.now.counts)) plan.now.list.now) }
 {
     let places = plan.counts.plants * slices_of(plan.counts);
-    places_of(plan.list, plan.starts[t], places, y)
+    year_part(plan.list, plan.starts[t], places, y)
 }
 
 // Of years of so many places each, one after another from a place on, those of year y.
-pub fn places_of(list: &[u32], from: usize, places: usize, y: usize) -> &[u32]
+pub fn year_part(list: &[u32], from: usize, places: usize, y: usize) -> &[u32]
     requires { (from + (y + 1) * places ≤ length list.now) × ((places ≤ 12288) × (y < 10)) }
     ensures { result.now ≡ take places (drop (from + y * places) list.now) }
 {

@@ -7,7 +7,7 @@ ghost use Rattle.parts.specs.Years.{YearPart, gen_kind, reserve_kind, charge_kin
 ghost use Rattle.energy.specs.Energies.{Energies};
 
 use energy::totals::EnergyTable;
-use parts::years::year_part;
+use parts::years::plan_part;
 use tables::lists::Case;
 use tables::names::{CHARGE, GEN, LEVEL, RESERVE};
 
@@ -44,9 +44,9 @@ pub fn year_of<'a>(tested: &TestedCase<'a>, y: usize) -> Year<'a>
     Year {
         tested: *tested,
         year: y,
-        outputs: year_part(plan, GEN, y),
-        reserves: year_part(plan, RESERVE, y),
-        charges: year_part(plan, CHARGE, y),
-        levels: year_part(plan, LEVEL, y),
+        outputs: plan_part(plan, GEN, y),
+        reserves: plan_part(plan, RESERVE, y),
+        charges: plan_part(plan, CHARGE, y),
+        levels: plan_part(plan, LEVEL, y),
     }
 }

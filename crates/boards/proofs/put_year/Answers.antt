@@ -30,6 +30,6 @@ returns c =
     let D = read c.args.«data».now in
     let e = counts-read c.args.«data».now c.counts_of-counts.ensures in
     let n = c.slices_of.ensures.0 in
-    let part = outputs-are D c.lay_out_plan-plan.result _ e c.lay_out_plan-plan.ensures c.lay_out_plan-plan.result.laid_out c.year_part.ensures.lies in
+    let part = outputs-are D c.lay_out_plan-plan.result _ e c.lay_out_plan-plan.ensures c.lay_out_plan-plan.result.laid_out c.plan_part.ensures.lies in
     board-written _ _ _ _ _ (board-tested D _ _ _ c.board_fits.ensures (years-are D e) (places-are D e n)) c.if-not-board_fits.false
     (c.replace.ensures ∙ ap (replaced c.args.board.now c.args.start) part)

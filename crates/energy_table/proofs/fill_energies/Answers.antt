@@ -14,6 +14,6 @@ loop-q-preserved c =
       search rules,
       fill-same (omega arith)
           (fill_one c.season_energy.result c.loop-y.y c.loop-g.g c.loop-q.q hg hq place.0 place.1
-          (part-season (read case.tables.list.now) case.plan.counted (case.tables.laid_out.counts ∙ sym case.same_counts) c.year_part-outputs.ensures.part hg hq (rw case.same_counts c.season_energy.ensures))
+          (part-season (read case.tables.list.now) case.plan.counted (case.tables.laid_out.counts ∙ sym case.same_counts) c.plan_part-outputs.ensures.part hg hq (rw case.same_counts c.season_energy.ensures))
           (fill-same (sym place.0) c.loop-q.invariant.1)),
     )
