@@ -12,8 +12,9 @@ use tables::lists::Tables;
 use tables::starts::table_box;
 
 // Refusal 3: every entry in the order of the list, left at the first that is out of range.
-// No iterator over an index set: a range, which no slice changes, is found between the loops, and the place is counted beside them.
-// An iterator over four indices would serve no other walk so.
+// No iterator over an index set: the range, which does not depend on the slice, is found between the loops, and the place is counted beside them.
+// An iterator over the four indices would serve `constant_terms` (`gap`) alone: `test_rows` and `test_columns` find something between their loops too.
+#[tactic(auto, unfolding(sums::specs::Span::upto, sums::specs::Sum::sum), using(sums::proofs::Spans::upto_step))]
 pub fn test_entries(tables: &Tables) -> Result<(), Refusal>
     ensures { result ≡ outcome (entries_fault (data_of tables.now)) }
 {

@@ -30,8 +30,9 @@ fn test_column(pricing: &Pricing, p: Place, unit: Sum, column: usize) -> Result<
 }
 
 // Refusals 11 and 12.
-// No iterator over an index set: a unit's price, which no slice changes, is found between the loops, and the column's number is counted beside them.
-// An iterator over four indices would serve no other walk so. What its loops know is stated with that of `test_rows` (tables/proofs/Steps.antt).
+// No iterator over an index set: the unit's price, which does not depend on the slice, is found between the loops, and the number is counted beside them.
+// An iterator over the four indices would serve `constant_terms` (`gap`) alone: `test_rows` and `test_entries` find something between their loops too.
+#[tactic(auto, unfolding(sums::specs::Span::upto, sums::specs::Sum::sum), using(sums::proofs::Spans::upto_step))]
 pub fn test_columns(pricing: &Pricing) -> Result<(), Refusal>
     ensures { result ≡ outcome (columns_fault (data_of pricing.now.tested.tables.now) pricing.now.multipliers.list.now) }
 {

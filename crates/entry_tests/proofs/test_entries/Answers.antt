@@ -4,26 +4,9 @@ use native.Mathlib.Omega.{arith}
 use Rattle.sums.proofs.Spans.{upto-stop}
 use Rattle.model.specs.Data.{read}
 use Rattle.model.specs.Tests.{unless}
-use Rattle.tables.specs.Layout.{table_sets}
-use Rattle.tables.proofs.Laws.{start-zero}
-use Rattle.tables.proofs.Walk.{begun, turned, ended}
+use Rattle.tables.proofs.Walk.{turned, ended}
 use Rattle.entry_tests.proofs.Entries.{all-tables, next-table, box-faults, turn, place-below, tested}
 use Rattle.entry_tests.proofs.test_entries.Goals as goal
-
-pub loop-t-init : goal.loop-t-init
-loop-t-init c = begun refl (start-zero _ table_sets 7)
-
-pub loop-y-init : goal.loop-y-init
-loop-y-init c = begun refl (omega (arith, c.loop-t.invariant.here))
-
-pub loop-i-init : goal.loop-i-init
-loop-i-init c = begun refl c.loop-y.invariant.here
-
-pub loop-j-init : goal.loop-j-init
-loop-j-init c = begun refl c.loop-i.invariant.here
-
-pub loop-s-init : goal.loop-s-init
-loop-s-init c = begun refl c.loop-j.invariant.here
 
 pub offset_bounds-tables-place : goal.offset_bounds-tables-place
 offset_bounds-tables-place c = omega (
@@ -55,15 +38,6 @@ loop-s-preserved c =
     c.loop-y-test.true c.loop-i-test.true c.loop-j-test.true c.loop-s-test.true v.invariant.here
     (c.range_at-r.ensures c.loop-y.y v.s) c.in_range.ensures in
     turned v.invariant c.loop-s-test.true refl (entry ∙ rw (c.if-not-in_range.false)) (omega (arith, v.invariant.here))
-
-pub loop-j-preserved : goal.loop-j-preserved
-loop-j-preserved c = turn c.loop-j.invariant c.loop-j-test.true c.loop-s.invariant c.loop-s-test.false refl (omega arith)
-
-pub loop-i-preserved : goal.loop-i-preserved
-loop-i-preserved c = turn c.loop-i.invariant c.loop-i-test.true c.loop-j.invariant c.loop-j-test.false refl (omega arith)
-
-pub loop-y-preserved : goal.loop-y-preserved
-loop-y-preserved c = turn c.loop-y.invariant c.loop-y-test.true c.loop-i.invariant c.loop-i-test.false refl (omega arith)
 
 pub loop-t-preserved : goal.loop-t-preserved
 loop-t-preserved c =

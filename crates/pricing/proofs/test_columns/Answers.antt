@@ -1,26 +1,10 @@
 use borrow.Author.Rules.{rules}
 use mathlib.Core.Path.{refl, ◌∙◌}
 use native.Mathlib.Omega.{arith}
-use Rattle.tables.proofs.Steps.{none, more, turn, walked_none, walked_more, walked_all}
-use Rattle.tables.proofs.Steps.{member-number, member_below, stopped, outcome-fine, outcome-fails}
+use Rattle.tables.proofs.Steps.{turn, walked_more, walked_all, member-number, member_below, stopped, outcome-fails}
 use Rattle.column_terms.proofs.Laws.{counts_of}
 use Rattle.pricing.proofs.Steps.{table_below, tables_end, columns-fit, box-is, column-member, answered}
 use Rattle.pricing.proofs.test_columns.Goals as goal
-
-pub loop-k-init : goal.loop-k-init
-loop-k-init c = walked_none refl refl
-
-pub loop-y-init : goal.loop-y-init
-loop-y-init c = none refl
-
-pub loop-i-init : goal.loop-i-init
-loop-i-init c = none refl
-
-pub loop-j-init : goal.loop-j-init
-loop-j-init c = none refl
-
-pub loop-s-init : goal.loop-s-init
-loop-s-init c = none refl
 
 pub test_column-requires : goal.test_column-requires
 test_column-requires c =
@@ -44,19 +28,8 @@ overflow_add-column c =
     let few = member_below c.loop-k.invariant (table_below _ l) (box-is _ l b.0) c.loop-y.invariant hy c.loop-i.invariant hi c.loop-j.invariant hj c.loop-s.invariant hs b.1 in
     record { fits = omega (arith, columns-fit _ few) }
 
-pub loop-s-preserved : goal.loop-s-preserved
-loop-s-preserved c =
-    let h = c.loop-s.invariant in
-    more h c.loop-s-test.true (outcome-fine _ c.test_column.ensures c.in_ok-test_column.was) refl refl
-
 pub loop-j-preserved : goal.loop-j-preserved
 loop-j-preserved c = turn c.loop-j.invariant c.loop-j-test.true c.loop-s.invariant c.loop-s-test.false refl (omega arith)
-
-pub loop-i-preserved : goal.loop-i-preserved
-loop-i-preserved c = turn c.loop-i.invariant c.loop-i-test.true c.loop-j.invariant c.loop-j-test.false refl (omega arith)
-
-pub loop-y-preserved : goal.loop-y-preserved
-loop-y-preserved c = turn c.loop-y.invariant c.loop-y-test.true c.loop-i.invariant c.loop-i-test.false refl (omega arith)
 
 pub loop-k-preserved : goal.loop-k-preserved
 loop-k-preserved c =
