@@ -37,7 +37,7 @@ loop-s-preserved c =
     tested c.args.tables.now.laid_out c.loop-t-test.true c.table_box-b.ensures.0
     c.loop-y-test.true c.loop-i-test.true c.loop-j-test.true c.loop-s-test.true v.invariant.here
     (c.range_at-r.ensures c.loop-y.y v.s) c.in_range.ensures in
-    turned v.invariant c.loop-s-test.true refl (entry ∙ rw (c.if-not-in_range.false)) (omega (arith, v.invariant.here))
+    turned v.invariant c.loop-s-test.true (entry ∙ rw (c.if-not-in_range.false)) (omega (arith, v.invariant.here))
 
 pub loop-t-preserved : goal.loop-t-preserved
 loop-t-preserved c =
