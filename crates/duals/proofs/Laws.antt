@@ -1,5 +1,5 @@
 -- The parts of a signed number, the starts of the families, a row's place among the multipliers, and the tests of refusals 9 and 10. Assumes nothing.
-use Rattle.std.specs.Prelude.{Result, Ok, Err}
+use Rattle.std.specs.Prelude.{Result, Err}
 use Rattle.model.specs.Calls.{outcome}
 use mathlib.Core.Path.{◌≡◌, refl, sym, ap, ◌∙◌, fun_ext}
 use mathlib.Core.Bool.{Bool, true, false, ◌&&◌}
@@ -121,18 +121,18 @@ module _ (ms : List ℤ) where
 
   -- the loop over the rows of a family, `size` of them from the row `first` on, at one of them; a record, so that a law finds the rows in it
   pub record Rows (equal : Bool) (first size row : ℕ) : Type 0 where
-    pub at : Reached (λ v. row_fault equal (first + v)) (λ v. first + v) (row - first) size row (Ok tt)
+    pub at : Reached (λ v. row_fault equal (first + v)) (λ v. first + v) (row - first) size row
 
   module _ {equal : Bool} {first size row : ℕ} where
     pub rows-begun : row ≡ first → Rows equal first size row
-    rows-begun h = let z : row - first ≡ 0 = omega (arith, h) in record { at = rw z (begun refl (omega (arith, h))) }
+    rows-begun h = let z : row - first ≡ 0 = omega (arith, h) in record { at = rw z (begun (omega (arith, h))) }
 
     module _ (r : Rows equal first size row) where
       pub rows-turned : row < first + size → row_fault equal row ≡ fine → Rows equal first size (row + 1)
       rows-turned l e =
           let here = r.at.here in
           let next : row + 1 - first ≡ row - first + 1 = omega (arith, here) in
-          record { at = rw next (turned r.at (omega (arith, here)) refl (rw (← here) e) (omega (arith, here))) }
+          record { at = rw next (turned r.at (omega (arith, here)) (rw (← here) e) (omega (arith, here))) }
 
       pub rows-ended : first + size ≤ row → upto size (λ v. row_fault equal (first + v)) ≡ fine
       rows-ended l = (ended r.at (omega (arith, r.at.here))).0

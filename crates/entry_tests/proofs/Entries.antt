@@ -1,5 +1,4 @@
 -- The walk through the entries that is left at the first out of range. Assumes nothing.
-use Rattle.std.specs.Prelude.{Result}
 use mathlib.Core.Path.{◌≡◌, refl, sym, ap, ◌∙◌}
 use mathlib.Core.Bool.{Bool}
 use mathlib.Core.List.{List}
@@ -47,9 +46,9 @@ unfolding entries_fault table_boxes
 all-tables D = refl
 
 -- a turn of a loop whose test is a loop of its own
-pub turn : {f g : ℕ → Fault Refusal} {p q : ℕ → ℕ} {k n i m before place : ℕ} {a b : Result (Unit {0}) Refusal}
-    → Reached f p k n before a → k < n → Reached g q i m place b → m ≤ i → f k ≡ upto m g → q m ≡ p (k + 1) → Reached f p (k + 1) n place b
-turn r h s d e w = let t = ended s d in turned r h s.going (e ∙ t.0) (t.1 ∙ w)
+pub turn : {f g : ℕ → Fault Refusal} {p q : ℕ → ℕ} {k n i m before place : ℕ}
+    → Reached f p k n before → k < n → Reached g q i m place → m ≤ i → f k ≡ upto m g → q m ≡ p (k + 1) → Reached f p (k + 1) n place
+turn r h s d e w = let t = ended s d in turned r h (e ∙ t.0) (t.1 ∙ w)
 
 module _ {l tables-at : List ℕ} {c : Counts} (h : TablesAt l tables-at c) {b : Box} {t : ℕ} (few : t < length tables) (e : b ≡ box_of (sets c) (get_or table_sets t 0)) where
   -- the place where the table starts

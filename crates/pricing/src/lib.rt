@@ -29,14 +29,15 @@ fn test_column(pricing: &Pricing, p: Place, unit: Sum, column: usize) -> Result<
     verdict(sums, price, column)
 }
 
-// Refusals 11 and 12. The price of a unit is found before the slices, since it does not depend on them.
-// The same form as `test_rows`, which document 01 names: one reading and the same laws (tables/proofs/Steps.antt) serve both.
+// Refusals 11 and 12.
+// No iterator over an index set: the unit's price, which does not depend on the slice, is found between the loops, and the number is counted beside them.
+// An iterator over the four indices would serve `constant_terms` (`gap`) alone: `test_rows` and `test_entries` find something between their loops too.
+#[tactic(auto, unfolding(sums::specs::Span::upto, sums::specs::Sum::sum), using(sums::proofs::Spans::upto_step))]
 pub fn test_columns(pricing: &Pricing) -> Result<(), Refusal>
     ensures { result ≡ outcome (columns_fault (data_of pricing.now.tested.tables.now) pricing.now.multipliers.list.now) }
 {
-    let mut answer = Ok(());
     let mut column = 0;
-    'walk: for k in 0..COLUMN_KIND_COUNT {
+    for k in 0..COLUMN_KIND_COUNT {
         let b = column_box(pricing.multipliers.counts, k);
         for y in 0..b.years {
             for i in 0..b.firsts {
@@ -50,17 +51,12 @@ pub fn test_columns(pricing: &Pricing) -> Result<(), Refusal>
                             second: j,
                             slice: s,
                         };
-                        match test_column(pricing, p, unit, column) {
-                            Ok(()) => column += 1,
-                            Err(r) => {
-                                answer = Err(r);
-                                break 'walk;
-                            }
-                        }
+                        test_column(pricing, p, unit, column)?;
+                        column += 1;
                     }
                 }
             }
         }
     }
-    answer
+    Ok(())
 }

@@ -1,5 +1,4 @@
 -- A walk that is left at the first fault: what one of its loops knows. Assumes nothing.
-use Rattle.std.specs.Prelude.{Result, Ok}
 use mathlib.Core.Path.{◌≡◌, refl, ◌∙◌}
 use Prim.Native.Nat.{ℕ, ◌+◌, ◌≤◌, ◌<◌}
 use native.Mathlib.Omega.{arith}
@@ -8,19 +7,18 @@ use Rattle.sums.proofs.Spans.{upto_step}
 use Rattle.model.specs.declared.Refusal.{Refusal}
 
 -- a loop of the walk after k of its n turns: none was at fault, and `place` is the k-th place
-pub record Reached (f : ℕ → Fault Refusal) (p : ℕ → ℕ) (k n place : ℕ) (answer : Result (Unit {0}) Refusal) : Type 0 where
-  pub going : answer ≡ Ok tt
+pub record Reached (f : ℕ → Fault Refusal) (p : ℕ → ℕ) (k n place : ℕ) : Type 0 where
   pub few : k ≤ n
   pub so : upto k f ≡ fine
   pub here : place ≡ p k
 
 module _ {f : ℕ → Fault Refusal} {p : ℕ → ℕ} where
-  pub begun : {n place : ℕ} {answer : Result (Unit {0}) Refusal} → answer ≡ Ok tt → place ≡ p 0 → Reached f p 0 n place answer
+  pub begun : {n place : ℕ} → place ≡ p 0 → Reached f p 0 n place
   unfolding upto
-  begun g e = record { going = g; few = omega arith; so = refl; here = e }
+  begun e = record { few = omega arith; so = refl; here = e }
 
-  pub turned : {k n m place : ℕ} {a b : Result (Unit {0}) Refusal} → Reached f p k n m a → k < n → b ≡ Ok tt → f k ≡ fine → place ≡ p (k + 1) → Reached f p (k + 1) n place b
-  turned {k} r l g e q = record { going = g; few = omega arith; so = upto_step k f r.so ∙ e; here = q }
+  pub turned : {k n m place : ℕ} → Reached f p k n m → k < n → f k ≡ fine → place ≡ p (k + 1) → Reached f p (k + 1) n place
+  turned {k} r l e q = record { few = omega arith; so = upto_step k f r.so ∙ e; here = q }
 
-  pub ended : {k n place : ℕ} {answer : Result (Unit {0}) Refusal} → Reached f p k n place answer → n ≤ k → (upto n f ≡ fine) × (place ≡ p n)
+  pub ended : {k n place : ℕ} → Reached f p k n place → n ≤ k → (upto n f ≡ fine) × (place ≡ p n)
   ended {k} {n} r l = let e : k ≡ n = omega arith in (rw (← e) r.so, rw (← e) r.here)

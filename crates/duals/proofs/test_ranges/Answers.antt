@@ -8,7 +8,7 @@ use Rattle.duals.proofs.Laws.{all-multipliers, family-start, family-end, family-
 use Rattle.duals.proofs.test_ranges.Goals as goal
 
 pub loop-k-init : goal.loop-k-init
-loop-k-init c = begun refl refl
+loop-k-init c = begun refl
 
 pub loop-row-init : goal.loop-row-init
 loop-row-init c = rows-begun _ (family-start c.args.multipliers.now.laid_out c.loop-k-test.true)
@@ -26,7 +26,7 @@ loop-row-preserved c =
 pub loop-k-preserved : goal.loop-k-preserved
 loop-k-preserved c =
     let rows = rows-ended _ c.loop-row.invariant (omega (arith, c.loop-row-test.false, family-end c.args.multipliers.now.laid_out c.loop-k-test.true)) in
-    turned c.loop-k.invariant c.loop-k-test.true refl (family-faults _ _ _ c.family_at-f.ensures ∙ rows) refl
+    turned c.loop-k.invariant c.loop-k-test.true (family-faults _ _ _ c.family_at-f.ensures ∙ rows) refl
 
 pub returns : goal.returns
 returns c = λ D e. sym (ap outcome (all-multipliers c.args.multipliers.now.list.now D e ∙ (ended c.loop-k.invariant c.loop-k-test.false).0))

@@ -1,5 +1,4 @@
 use Prim.Native.Nat.{◌+◌, ◌-◌}
-use Rattle.std.specs.Prelude.{Ok}
 use lib.ListN.{get_or}
 use Rattle.sums.specs.Index.{box_of, volume, start}
 use Rattle.model.specs.Families.{row_boxes, family_count}
@@ -14,7 +13,7 @@ abbrev pub decreases-loop-row : goal.decreases-loop-row
 decreases-loop-row l = get_or l.multipliers.starts (l.k + 1) 0 - l.row
 
 abbrev pub invariant-loop-k : goal.invariant-loop-k
-invariant-loop-k l = Reached (family_fault l.multipliers.list.now l.multipliers.counts) (λ k. k) l.k family_count l.k (Ok tt)
+invariant-loop-k l = Reached (family_fault l.multipliers.list.now l.multipliers.counts) (λ k. k) l.k family_count l.k
 
 abbrev pub decreases-loop-k : goal.decreases-loop-k
 decreases-loop-k l = family_count - l.k
