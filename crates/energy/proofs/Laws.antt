@@ -30,9 +30,6 @@ pub all_more : {r s t : Sum} {b : Bool} (k : ℕ) (p : ℕ → Bool) (f : ℕ �
 unfolding all_if
 all_more k p f e h v w = e ∙ rw (h, v, w) (ap (λ (n : ℕ). all_if n p f) (sym (add-one k)))
 
-pub all_done : {s : Sum} {k n : ℕ} (p : ℕ → Bool) (f : ℕ → Sum) → s ≡ all_if k p f → k ≡ n → s ≡ all_if n p f
-all_done p f e h = e ∙ ap (λ (m : ℕ). all_if m p f) h
-
 -- The places
 
 module _ {c : Counts} (few : Counted c) where

@@ -43,8 +43,6 @@ pub record Filled (F : ℕ → ℕ → ℕ → Sum) (G Q : ℕ) (energy : List S
   pub is : (y g q : ℕ) → g < G → q < Q → (y * G + g) * Q + q < place → get_or energy ((y * G + g) * Q + q) (Some 0) ≡ F y g q
 
 module _ {F : ℕ → ℕ → ℕ → Sum} {G Q : ℕ} where
-  pub fill_none : {energy : List Sum} → length energy ≡ energy_count → Filled F G Q energy 0
-  fill_none e = record { long = e; is = λ y g q hg hq h. absurd (omega arith) }
 
   -- a number below place + 1 is below it, or it is place: then year, plant and season are those of the place
   pub fill_one : {energy : List Sum} {place : ℕ} (v : Sum) (y g q : ℕ) → g < G → q < Q → place ≡ (y * G + g) * Q + q → place < energy_count → v ≡ F y g q
@@ -66,10 +64,6 @@ module _ {F : ℕ → ℕ → ℕ → Sum} {G Q : ℕ} where
 -- the same at another name of the place: where a season's loop ends the next plant's begins, and so on
 pub fill-same : {F : ℕ → ℕ → ℕ → Sum} {G Q m n : ℕ} {energy : List Sum} → m ≡ n → Filled F G Q energy m → Filled F G Q energy n
 fill-same e f = record { long = f.long; is = λ y g q hg hq h. f.is y g q hg hq (rw e h) }
-
--- the place where a year's plants end
-pub year-end : {g G : ℕ} (y Q : ℕ) → g ≡ G → (y * G + g) * Q ≡ (y + 1) * G * Q
-year-end y Q h = rw h (omega arith)
 
 pub energies : {D : Data} {x : Index → ℕ} {energy : List Sum} {c : Counts} {y : ℕ} → c.years ≤ y
     → Filled (season_energy D x) c.plants c.seasons energy (y * c.plants * c.seasons) → Energies D x energy c

@@ -16,16 +16,12 @@ use Rattle.model.specs.Calls.{code_of, certificate_code, certify}
 use Rattle.model.specs.Rival.{Bounds, Binds}
 use Rattle.model.proofs.Demand.{demand3}
 use Rattle.exports.specs.Figures.{figures}
-use Rattle.epm_c.specs.Exports.{status, written, board_of, BindsOut}
+use Rattle.epm_c.specs.Exports.{status, written, BindsOut}
 
 module _ (out : List ℕ) (room : 2 ≤ length out) where
   pub answered : {last : List ℕ} {r : ℕ} {c d : Code} → c ≡ d → (r ≡ c.number) × (last ≡ figures out c) → (r ≡ status (length out) d) × (last ≡ written out d)
   unfolding status written
   answered {d = d} e q = rw (le-ltb (length out) 2 room) (q.0 ∙ ap (λ (c : Code). c.number) e, q.1 ∙ ap (figures out) e)
-
-  pub board-kept : (old : List ℕ) {last new : List ℕ} → last ≡ new → last ≡ board_of (length out) old new
-  unfolding board_of
-  board-kept old q = rw (le-ltb (length out) 2 room) q
 
 -- no refusal has the number 0
 refused : (r : Refusal) → (code_of r).number ≡ 0 → ⊥

@@ -1,8 +1,7 @@
 -- The laws of the loop that looks for the lowest: what holds before the first turn, after one turn more, and at the end. Assumes nothing.
 -- `Lowest` is a record and no product, so that a law finds the term f and the number of turns in the invariant.
-use mathlib.Core.Path.{◌≡◌, sym, ap, ◌∙◌}
+use mathlib.Core.Path.{◌≡◌, sym, ◌∙◌}
 use Prim.Native.Nat.{ℕ, ◌+◌, ◌≤◌, ◌<◌, min}
-use native.Mathlib.Nat.{le_antisymm}
 use native.Mathlib.Omega.{arith}
 use Rattle.sums.specs.Sum.{least}
 use Rattle.sums.proofs.Least.{least-one, least-one-more}
@@ -21,6 +20,3 @@ lowest-one {f} l e q = record { some = omega arith; upto = l; is = e ∙ sym (le
 module _ {n most : ℕ} {f : ℕ → ℕ} {k v : ℕ} (h : Lowest n most f k v) where
   pub lowest-more : {t r : ℕ} → k < n → t ≡ f k → r ≡ min v t → Lowest n most f (k + 1) r
   lowest-more l e q = record { some = omega arith; upto = omega arith; is = omega (arith, least-one-more k f h.some); few = omega arith }
-
-  pub lowest-all : n ≤ k → v ≡ least n f
-  lowest-all l = h.is ∙ ap (λ (m : ℕ). least m f) (le_antisymm h.upto l)

@@ -40,12 +40,6 @@ module _ (c : Counts) {k : ℕ} {b : Box} (l : k < column_kind_count) (e : b ≡
   pub column-member : {y i j s : ℕ} → y < b.years → i < b.firsts → j < b.seconds → s < b.slices → Member (column_boxes c) (index k y i j s)
   column-member hy hi hj hs = (table_below c l, rw (← box-is) hy, rw (← box-is) hi, rw (← box-is) hj, rw (← box-is) hs)
 
-  pub first_below : {i : ℕ} → i < b.firsts → i < (box_of (sets c) (get_or column_sets k 0)).firsts
-  first_below h = rw (← e) h
-
-  pub second_below : {j : ℕ} → j < b.seconds → j < (box_of (sets c) (get_or column_sets k 0)).seconds
-  second_below h = rw (← e) h
-
   pub year-below : {y : ℕ} → Counted c → y < b.years → y < c.years
   year-below n hy = members.year-below (get_or column_sets k 0) n e hy
 

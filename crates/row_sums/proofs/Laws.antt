@@ -1,19 +1,10 @@
 -- What the functions of several crates of rows cite: a row's two sums from the answers of the calls that make them. A law
 -- takes the call's answer and the equations of its arguments, and gives the sum of the document's numbers. Assumes nothing.
 use mathlib.Core.Path.{◌≡◌, refl, ◌∙◌}
-use mathlib.Core.Bool.{Bool}
-use mathlib.Core.List.{List}
-use Prim.Native.Nat.{ℕ, ◌+◌, ◌*◌, ◌-◌, ◌<◌}
+use Prim.Native.Nat.{ℕ, ◌+◌, ◌*◌, ◌-◌}
 use native.Mathlib.Nat.{add-zero, mul-zero, sub_self}
-use lib.ListN.{get_or}
-use Rattle.capped.specs.Cap.{cap, plus, plus_if, both, Sum}
+use Rattle.capped.specs.Cap.{cap, plus, both, Sum}
 use Rattle.capped.proofs.Laws.{plus-cap, both-cap}
-use Rattle.sums.specs.Sum.{on}
-use Rattle.sums.specs.Index.{index}
-use Rattle.model.specs.declared.Counts.{Counts}
-use Rattle.model.specs.Counts.{slices_of}
-use Rattle.tables.specs.Layout.{plan_entry}
-use Rattle.parts.specs.Years.{YearPart}
 use Rattle.terms.proofs.Laws.{plus-on}
 use Rattle.constants.specs.declared.Constant.{Constant}
 use Rattle.row_sums.specs.declared.Sides.{Sides}
@@ -29,14 +20,6 @@ plus-is {u = u} {v = v} m e h p q = e ∙ rw (h, p, q) (plus-cap m (u * v))
 
 pub join_is : {r s t : Sum} (m n : ℕ) → r ≡ both s t → s ≡ cap m → t ≡ cap n → r ≡ cap (m + n)
 join_is m n e h k = e ∙ rw (h, k) (both-cap m n)
-
-pub plus-if-is : {r s : Sum} {n v : ℕ} (b : Bool) (m a : ℕ) → r ≡ plus_if b s (a * n) → s ≡ cap m → n ≡ v → r ≡ cap (m + on b (a * v))
-plus-if-is {v = v} b m a e h q = e ∙ rw (h, q) (plus-on b m (a * v))
-
--- an entry of a year's part is the plan's
-pub part-value : {plan part : List ℕ} {c : Counts} {t y g s : ℕ} → YearPart plan part c t y → g < c.plants → s < slices_of c
-    → {v : ℕ} → v ≡ get_or part (g * slices_of c + s) 0 → v ≡ plan_entry c plan (index t y g 0 s)
-part-value p hg hs e = e ∙ p.is _ _ hg hs
 
 -- A row's two sums, without a constant, with one, and with a limit that alone stands against them
 

@@ -14,7 +14,6 @@ use borrow.Author.Tests.{ne_eqb}
 use mir.Syntax.{w64}
 use mir.Val.{Fits}
 use Rattle.sums.specs.declared.Box.{Box}
-use Rattle.sums.specs.Sum.{sum}
 use Rattle.sums.specs.Index.{index, box, box_of, volume, inside, start, count, number, Member}
 use Rattle.sums.proofs.Sums.{sum-cong, sum-one-more}
 use Rattle.sums.proofs.Lists.{Alls}
@@ -146,11 +145,7 @@ module _ (c : Counts) (kinds : List ℕ) where
   pub start-at : (from t : ℕ) → t ≤ length kinds → start_from c kinds from t ≡ from + start boxes t
   start-at from t h = ap (λ (v : ℕ). from + v) (sum-cong t (λ i l. ap (λ (b : Box). volume b) (sym (box-at i (omega arith)))))
 
-  -- the first start, and one more as the loop makes it
-  pub start-zero : (from : ℕ) → from ≡ start_from c kinds from 0
-  unfolding sum
-  start-zero from = omega arith
-
+  -- one start more, as the loop makes it
   pub start-more : (from k : ℕ) {next size : ℕ} → next ≡ start_from c kinds from k → size ≡ volume (box_of (sets c) (get_or kinds k 0))
       → next + size ≡ start_from c kinds from (k + 1)
   start-more from k e q = omega (arith, e, q, sum-one-more k (λ i. volume (box_of (sets c) (get_or kinds i 0))))

@@ -13,7 +13,7 @@ use Rattle.model.specs.Counts.{sets}
 use Rattle.model.specs.Data.{table_boxes, table_count}
 use Rattle.model.specs.Columns.{column_sets, column_boxes, column_kind_count}
 use Rattle.model.specs.Families.{family, families, family_of, row_boxes, family_count}
-use Rattle.tables.specs.Layout.{Counted, Inside, EntryAt, table_sets}
+use Rattle.tables.specs.Layout.{Counted, Inside, table_sets}
 use Rattle.tables.proofs.Laws.{get_or-map-in, at-any, box-at}
 
 pub family-box : (c : Counts) {k : ℕ} → k < family_count → box_of (row_boxes c) k ≡ box_of (sets c) (family_of k).set
@@ -47,11 +47,3 @@ year-below {c} n few e h = omega (arith, few-years c few.some_years n, ap (λ (a
 
 pub year-inside : {c : Counts} {n y i j s : ℕ} → Counted c → Inside c n y i j s → y < c.years
 year-inside {c} {n} few h = omega (arith, few-years c few.some_years n, h.year)
-
--- where a year's entry of the plan can be read, that of an earlier year can
-pub of-earlier-year : {kinds : List ℕ} {c : Counts} {t k v y i j s : ℕ} → v ≤ y → EntryAt kinds c t k y i j s → EntryAt kinds c t k v i j s
-of-earlier-year h m = record {
-  table = m.table;
-  set = m.set;
-  inside = record { year = omega (arith, h, m.inside.year); «first» = m.inside.first; second = m.inside.second; slice = m.inside.slice };
-}

@@ -3,7 +3,7 @@
 use mathlib.Core.Path.{◌≡◌, sym, ap, ◌∙◌}
 use mathlib.Core.Bool.{Bool, true, false}
 use Prim.Native.Nat.{ℕ, ◌+◌, ◌*◌, ◌≤◌, ◌<◌, zero-le}
-use native.Mathlib.Nat.{add-zero, le_antisymm, mul-le-mul}
+use native.Mathlib.Nat.{add-zero, mul-le-mul}
 use native.Mathlib.Omega.{arith}
 use Rattle.capped.specs.Cap.{cap, plus_if, Sum}
 use Rattle.capped.proofs.Laws.{plus-cap}
@@ -32,9 +32,6 @@ summed-none e = record { upto = zero-le; is = e }
 module _ {n : ℕ} {f : ℕ → ℕ} {k : ℕ} {s : Sum} (h : Summed n f k s) where
   pub summed-more : {r : Sum} → k < n → r ≡ cap (sum k f + f k) → Summed n f (k + 1) r
   summed-more l e = record { upto = omega arith; is = e ∙ rw sum-one-more }
-
-  pub summed-all : n ≤ k → s ≡ cap (sum n f)
-  summed-all l = h.is ∙ ap (λ (m : ℕ). cap (sum m f)) (le_antisymm h.upto l)
 
 -- Slices of a season
 
