@@ -1,4 +1,4 @@
--- The shape record and the starts of the families, at the counts that the code holds.
+-- The shape record, at the counts that the code holds.
 use mathlib.Core.Path.{◌≡◌, sym, ap, ◌∙◌}
 use Rattle.model.specs.declared.Counts.{Counts}
 use Rattle.model.specs.declared.Shape.{Shape}
