@@ -51,7 +51,7 @@ pub fn energy_at(energy: &EnergyTable, c: Counts, y: usize, g: usize, q: usize) 
 }
 
 // The sum of those of n sums that a test passes. They need not be capped sums of numbers, as `total` asks: a caller lends the table of energies.
-// A loop: `filter`, `map` and `fold` are proved too, but `filter` lends the number, and the closure that would read it for the test needs a `requires` of its own.
+// A loop: `filter`, `map` and `fold`, or one `fold`, are proved too, but are longer: the closure that calls the test needs a `requires` of its own.
 fn sum_of<P: Fn(usize) -> bool, F: Fn(usize) -> Sum>(n: usize, test: P, term: F) -> Sum
     requires { (i : ℕ) → i < n → P.pre test i × F.pre term i }
     ensures { (p : ℕ → Bool) (f : ℕ → Sum) → ((i : ℕ) (b : Bool) → i < n → P.post test i b → b ≡ p i) → ((i : ℕ) (r : Sum) → i < n → F.post term i r → r ≡ f i)
