@@ -98,13 +98,12 @@ fn energy_of<P: Fn(usize) -> bool>(
 }
 
 // Σ Dur·HeatRate·gen over the plants of zone z and fuel f, in year y.
-// `&` and no `&&`: tried, and the proof did not close over a closure with two ways through.
 pub fn burned(tables: &Tables, energy: &EnergyTable, y: usize, z: u64, f: u64) -> Sum
     requires { y < tables.now.counts.years }
     ensures { result ≡ all_if tables.now.counts.plants (λ g. eqb (zone (data_of tables.now) g) z && eqb (fuel (data_of tables.now) g) f) (λ g. year_energy tables.now.counts energy.now (heat_rate (data_of tables.now) g) y g) }
 {
     energy_of(tables, energy, HEAT_RATE, y, |g| {
-        (tables.by_plant(ZONE, g) == z) & (tables.by_plant(FUEL, g) == f)
+        tables.by_plant(ZONE, g) == z && tables.by_plant(FUEL, g) == f
     })
 }
 
