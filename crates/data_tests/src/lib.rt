@@ -54,7 +54,7 @@ fn is_count(data: &[u32], i: usize) -> bool
 }
 
 // The refusal of the first of n numbers, in order, that is bad, where one is.
-// A loop and no `find`: that would put a closure of its own around each call of the test that is handed over.
+// In `0..n` the place of a number is the number. `position` takes the test as it is, where `find` would put a closure around each call of it.
 fn first_refused<P: Fn(usize) -> bool, R: Fn(usize) -> Refusal>(
     n: usize,
     bad: P,
@@ -64,12 +64,10 @@ fn first_refused<P: Fn(usize) -> bool, R: Fn(usize) -> Refusal>(
     ensures { (f : ℕ → Fault Refusal) → ((i : ℕ) → i < n → P.post bad i false → f i ≡ fine)
         → ((i : ℕ) (r : Refusal) → i < n → P.post bad i true → R.post refusal i r → f i ≡ fault r) → result ≡ outcome (upto n f) }
 {
-    for i in 0..n {
-        if bad(i) {
-            return Err(refusal(i));
-        }
+    match (0..n).position(bad) {
+        Some(i) => Err(refusal(i)),
+        None => Ok(()),
     }
-    Ok(())
 }
 
 // Refusal 1.

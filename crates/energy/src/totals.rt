@@ -51,7 +51,7 @@ pub fn energy_at(energy: &EnergyTable, c: Counts, y: usize, g: usize, q: usize) 
 }
 
 // The sum of those of n sums that a test passes. They need not be capped sums of numbers, as `total` asks: a caller lends the table of energies.
-// A loop, and no `fold`: tried, and the proof that the test and the term can be called at each turn did not close.
+// A loop: `filter`, `map` and `fold`, or one `fold`, are proved too, but are longer: the closure that calls the test needs a `requires` of its own.
 fn sum_of<P: Fn(usize) -> bool, F: Fn(usize) -> Sum>(n: usize, test: P, term: F) -> Sum
     requires { (i : ℕ) → i < n → P.pre test i × F.pre term i }
     ensures { (p : ℕ → Bool) (f : ℕ → Sum) → ((i : ℕ) (b : Bool) → i < n → P.post test i b → b ≡ p i) → ((i : ℕ) (r : Sum) → i < n → F.post term i r → r ≡ f i)
@@ -101,13 +101,12 @@ fn energy_of<P: Fn(usize) -> bool>(
 }
 
 // Σ Dur·HeatRate·gen over the plants of zone z and fuel f, in year y.
-// `&` and no `&&`: tried, and the proof did not close over a closure with two ways through.
 pub fn burned(tables: &Tables, energy: &EnergyTable, y: usize, z: u64, f: u64) -> Sum
     requires { y < tables.now.counts.years }
     ensures { result ≡ all_if tables.now.counts.plants (λ g. eqb (zone (data_of tables.now) g) z && eqb (fuel (data_of tables.now) g) f) (λ g. year_energy tables.now.counts energy.now (heat_rate (data_of tables.now) g) y g) }
 {
     energy_of(tables, energy, HEAT_RATE, y, |g| {
-        (tables.by_plant(ZONE, g) == z) & (tables.by_plant(FUEL, g) == f)
+        tables.by_plant(ZONE, g) == z && tables.by_plant(FUEL, g) == f
     })
 }
 

@@ -1,22 +1,21 @@
--- The laws of the loop that looks for the lowest: what holds before the first turn, after one turn more, and at the end. Assumes nothing.
--- `Lowest` is a record and no product, so that a law finds the term f and the number of turns in the invariant.
-use mathlib.Core.Path.{◌≡◌, sym, ◌∙◌}
-use Prim.Native.Nat.{ℕ, ◌+◌, ◌≤◌, ◌<◌, min}
+-- The least of some numbers by `min` over them in turn is that of the definitions. Assumes nothing.
+use mathlib.Core.Path.{◌≡◌, refl, sym, ap, ◌∙◌}
+use mathlib.Core.List.{map}
+use Prim.Native.Nat.{ℕ, zero, suc, ◌+◌, ◌≤◌, min}
+use native.Mathlib.Nat.{add-zero}
 use native.Mathlib.Omega.{arith}
+use Rattle.std.specs.List.{fold, reduce, range_with_len}
+use Rattle.std.specs.Option.{unwrap_or}
 use Rattle.sums.specs.Sum.{least}
-use Rattle.sums.proofs.Least.{least-one, least-one-more}
+use Rattle.sums.proofs.Least.{least-one-more}
 
--- The least of terms up to `most`: after k of n turns, the first before the loop, v is the least of the first k terms.
+module _ (f : ℕ → ℕ) where
+  lowest_from : (n k : ℕ) → 1 ≤ k → fold min (least k f) (map f (range_with_len k n)) ≡ least (k + n) f
+  lowest_from zero k l = ap (λ (i : ℕ). least i f) (sym (add-zero k))
+  lowest_from (suc n) k l =
+      ap (λ v. fold min v (map f (range_with_len (k + 1) n))) (sym (least-one-more k f l)) ∙ lowest_from n (k + 1) (omega arith) ∙ ap (λ (i : ℕ). least i f) (omega arith)
 
-pub record Lowest (n most : ℕ) (f : ℕ → ℕ) (k v : ℕ) : Type 0 where
-  pub some : 1 ≤ k
-  pub upto : k ≤ n
-  pub is : v ≡ least k f
-  pub few : v ≤ most
-
-pub lowest-one : {n most v : ℕ} {f : ℕ → ℕ} → 1 ≤ n → v ≡ f 0 → v ≤ most → Lowest n most f 1 v
-lowest-one {f} l e q = record { some = omega arith; upto = l; is = e ∙ sym (least-one f); few = q }
-
-module _ {n most : ℕ} {f : ℕ → ℕ} {k v : ℕ} (h : Lowest n most f k v) where
-  pub lowest-more : {t r : ℕ} → k < n → t ≡ f k → r ≡ min v t → Lowest n most f (k + 1) r
-  lowest-more l e q = record { some = omega arith; upto = omega arith; is = omega (arith, least-one-more k f h.some); few = omega arith }
+  pub lowest_is : (n : ℕ) → unwrap_or (reduce min (map f (range_with_len 0 n))) 0 ≡ least n f
+  unfolding least
+  lowest_is zero = refl
+  lowest_is (suc n) = let next : 1 + n ≡ suc n = omega arith in lowest_from n 1 (omega arith) ∙ ap (λ (i : ℕ). least i f) next

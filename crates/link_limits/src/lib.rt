@@ -41,16 +41,13 @@ pub fn lowest_limits_into(tables: &Tables, y: usize, z: usize) -> u64
     )
 }
 
-// The lowest of TL[u,z] over the seasons, of which there is at least one.
-// A loop, and no `fold` over the seasons: tried, and the proof of a turn of the fold did not close.
-// `map(..).min()` takes the same closure and gives an Option, so that the case of no season would have to be ruled out.
+// The lowest of TL[u,z] over the seasons. There is at least one; of none `least` of the definitions gives 0, so no case has to be ruled out.
 fn lowest_limit(tables: &Tables, y: usize, u: usize, z: usize) -> u64
     requires { (y < tables.now.counts.years) × ((u < tables.now.counts.zones) × (z < tables.now.counts.zones)) }
     ensures { (result ≡ least tables.now.counts.seasons (λ q. tl (data_of tables.now) y u z q)) × (result ≤ most32) }
 {
-    let mut lowest = tables.by_link_season(TL, y, u, z, 0);
-    for q in 1..tables.counts.seasons {
-        lowest = lowest.min(tables.by_link_season(TL, y, u, z, q));
-    }
-    lowest
+    (0..tables.counts.seasons)
+        .map(|q| tables.by_link_season(TL, y, u, z, q))
+        .min()
+        .unwrap_or(0)
 }

@@ -8,7 +8,7 @@ use native.Mathlib.Nat.{mul-le-mul, lt_of_le_of_lt, eq-or-lt_of_le}
 use native.Mathlib.Omega.{arith}
 use lib.Dec.{T, ltb, eqb, lit<}
 use lib.ListN.{length, get_or, set, length-map}
-use lib.Seq.{ext_get_or, get_or-set_same, get_or-set_other}
+use lib.Seq.{get_or-set_same, get_or-set_other}
 use borrow.Author.Count.{below_more}
 use borrow.Author.Tests.{ne_eqb}
 use mir.Syntax.{w64}
@@ -23,7 +23,7 @@ use Rattle.model.specs.Counts.{sets, slices_of}
 use Rattle.model.specs.Data.{table_boxes, place_of, data_length, read, table_count}
 use Rattle.model.specs.Columns.{column_sets, column_boxes, column_kind_count}
 use Rattle.model.specs.declared.Family.{Family}
-use Rattle.model.specs.Families.{family, families, family_of, row_boxes, shape_of, family_count}
+use Rattle.model.specs.Families.{families}
 use Rattle.tables.specs.Layout.{Counted, Small, Inside, TablesAt, ColumnsAt, EntryAt, start_from, table_sets, plan_entry}
 
 -- a product of two numbers with known bounds fits; antt computes the test on the bounds
@@ -117,21 +117,6 @@ few_inside {b} {k} {y} {i} {j} {s} m h =
     let p : y * b.firsts + i ≤ 352 = omega (arith, mul-le-mul hy h.few_firsts) in
     let q : (y * b.firsts + i) * b.seconds + j ≤ 2824 = omega (arith, mul-le-mul p h.few_seconds) in
     (p, q, omega (arith, mul-le-mul q h.few_slices))
-
--- The family sizes
-
-pub size_is : (c : Counts) (k : ℕ) → k < family_count → volume (box_of (sets c) (family_of k).set) ≡ volume (box_of (row_boxes c) k)
-unfolding family_of row_boxes
-size_is c k h =
-    ap (λ (b : Box). volume b) (sym (get_or-map-in (λ (f : Family). box_of (sets c) f.set) families (family 0 0 false) (box 0 0 0 0) k h))
-
-pub shape_is : (c : Counts) (sizes : List ℕ) → length sizes ≡ family_count → ((i : ℕ) → i < family_count → get_or sizes i 0 ≡ volume (box_of (row_boxes c) i))
-    → record { counts = c; sizes = sizes } ≡ shape_of c
-unfolding shape_of row_boxes
-shape_is c sizes n h =
-    ap (λ (l : List ℕ). record { counts = c; sizes = l })
-    (ext_get_or 0 sizes (map (λ (b : Box). volume b) (row_boxes c)) n
-    (λ i l. h i (omega arith) ∙ sym (get_or-map-in (λ (b : Box). volume b) (row_boxes c) (box 0 0 0 0) 0 i (omega arith))))
 
 -- The starts and places of any list of index sets
 

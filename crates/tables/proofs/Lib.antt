@@ -1,3 +1,4 @@
+pub mod Arrays
 pub mod Laws
 pub mod Members
 pub mod Walk

@@ -359,17 +359,11 @@ pub fn inside_of(c: Counts, k: usize, y: usize, i: usize, j: usize, s: usize) ->
     ((y * b.firsts + i) * b.seconds + j) * b.slices + s
 }
 
-// The counts and the family sizes that follow from them. A loop: tried with `array::from_fn`, whose contract (as `map`'s) leaves the closure's state open at
-// each call; the proof that it stays the counts did not close.
+// The counts and the family sizes that follow from them.
 pub fn shape_of(c: Counts) -> Shape
     requires { Counted c }
     ensures { result ≡ shape_of c }
 {
-    let mut sizes = [0; FAMILY_COUNT];
-    for k in 0..FAMILY_COUNT {
-        let f = family_at(k);
-        let b = box_of(c, f.set);
-        sizes[k] = members_of(b);
-    }
+    let sizes = FAMILIES.map(|f| members_of(box_of(c, f.set)));
     Shape { counts: c, sizes }
 }

@@ -9,20 +9,14 @@ use capped::Sum;
 // Two functions: `total` caps and takes any term, `exact_total` needs bounds and gives a number.
 
 // Σ term(i) over the i below n: where each term is the capped sum of a number f i, it is that of Σ f.
-// A loop, and no `fold` over the terms: tried, and the proof that a term can be called at each turn did not close.
 pub fn total<F: Fn(usize) -> Sum>(n: usize, term: F) -> Sum
     requires { (i : ℕ) → i < n → F.pre term i }
     ensures { (f : ℕ → ℕ) → ((i : ℕ) (r : Sum) → i < n → F.post term i r → r ≡ cap (f i)) → result ≡ cap (sum n f) }
 {
-    let mut total = capped::zero();
-    for i in 0..n {
-        total = capped::join(total, term(i));
-    }
-    total
+    (0..n).map(term).fold(capped::zero(), capped::join)
 }
 
 // The same of up to 2^32 - 1 numbers, each up to 2^32 - 1: a word holds their sum.
-// A loop here too: a `fold` was tried, and the proof that each turn's sum fits a word did not close.
 pub fn exact_total<F: Fn(usize) -> u64>(n: usize, term: F) -> u64
     requires few { n ≤ most32 }
     requires callable { (i : ℕ) → i < n → F.pre term i }
@@ -30,11 +24,7 @@ pub fn exact_total<F: Fn(usize) -> u64>(n: usize, term: F) -> u64
     ensures value { (f : ℕ → ℕ) → ((i r : ℕ) → i < n → F.post term i r → r ≡ f i) → result ≡ sum n f }
     ensures bound { result ≤ n * most32 }
 {
-    let mut total = 0;
-    for i in 0..n {
-        total += term(i);
-    }
-    total
+    (0..n).map(term).sum()
 }
 
 // A product where a test holds, else 0.
