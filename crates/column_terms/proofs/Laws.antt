@@ -1,10 +1,10 @@
 -- The sums of a column, made term by term: the laws of the steps and of the loops, and the ramps by the names of the model. Assumes nothing.
 -- `Priced` and `Walked` are records, so that a law finds the coefficients in them.
-use mathlib.Core.Path.{◌≡◌, refl, sym, ap, ap₂, ◌∙◌}
+use mathlib.Core.Path.{◌≡◌, refl, sym, ap₂, ◌∙◌}
 use mathlib.Core.Bool.{Bool, true, false}
 use mathlib.Core.List.{List}
 use Prim.Native.Nat.{ℕ, ◌+◌, ◌≤◌, ◌<◌, zero-le}
-use native.Mathlib.Nat.{add-sub_cancel, le_antisymm}
+use native.Mathlib.Nat.{add-sub_cancel}
 use native.Mathlib.Omega.{arith}
 use lib.IntN.{ℤ}
 use lib.ListN.{get_or}
@@ -110,9 +110,6 @@ module _ {c : Counts} {ms : List ℤ} where
     unfolding joined pair_of
     walked_more l d e =
         record { upto = omega arith; so = e ∙ rw (h.so, d, both-cap, both-cap, sum-one-more, sum-one-more, sum-one-more, sum-one-more) (pair_is (omega arith) (omega arith)) }
-
-    pub walked_all : n ≤ k → p ≡ pair_of c ms (∑ n a) (∑ n b)
-    walked_all l = h.so ∙ ap (λ (m : ℕ). pair_of c ms (∑ m a) (∑ m b)) (le_antisymm h.upto l)
 
 -- the ramps that `in_ramps` sums are those in which the model has the columns of a plant's slice
 pub ramps-are : (D : Data) {c : Counts} → D.counts ≡ c → (fall rise y g s : ℕ) → in_ramps c fall rise y g s ≡ ramps_in D (fall + 1) (rise + 1) y g s
