@@ -1,25 +1,9 @@
 use mathlib.Core.Path.{refl, ◌∙◌}
 use native.Mathlib.Omega.{arith}
-use Rattle.tables.proofs.Steps.{none, more, turn, walked_none, walked_more, walked_all}
-use Rattle.tables.proofs.Steps.{member-number, member_below, stopped, outcome-fine, outcome-fails}
+use Rattle.tables.proofs.Steps.{more, turn, walked_more, walked_all, member-number, member_below, stopped, outcome-fine, outcome-fails}
 use Rattle.column_terms.proofs.Laws.{counts_of}
 use Rattle.pricing.proofs.Steps.{table_below, tables_end, columns-fit, box-is, column-member, answered}
 use Rattle.pricing.proofs.test_columns.Goals as goal
-
-pub walk-init : goal.walk-init
-walk-init c = walked_none refl refl
-
-pub loop-y-init : goal.loop-y-init
-loop-y-init c = none c.walk.invariant.accepted
-
-pub loop-i-init : goal.loop-i-init
-loop-i-init c = none c.loop-y.invariant.accepted
-
-pub loop-j-init : goal.loop-j-init
-loop-j-init c = none c.loop-i.invariant.accepted
-
-pub loop-s-init : goal.loop-s-init
-loop-s-init c = none c.loop-j.invariant.accepted
 
 pub test_column-requires : goal.test_column-requires
 test_column-requires c =
