@@ -13,20 +13,6 @@ use Rattle.entry_tests.proofs.test_entries.Goals as goal
 pub walk-init : goal.walk-init
 walk-init c = begun refl (start-zero _ table_sets 7)
 
-pub loop-y-init : goal.loop-y-init
-loop-y-init c =
-    let w = c.walk.invariant in
-    begun w.going (omega (arith, w.here))
-
-pub loop-i-init : goal.loop-i-init
-loop-i-init c = begun c.loop-y.invariant.going c.loop-y.invariant.here
-
-pub loop-j-init : goal.loop-j-init
-loop-j-init c = begun c.loop-i.invariant.going c.loop-i.invariant.here
-
-pub loop-s-init : goal.loop-s-init
-loop-s-init c = begun c.loop-j.invariant.going c.loop-j.invariant.here
-
 pub offset_bounds-tables-place : goal.offset_bounds-tables-place
 offset_bounds-tables-place c = omega (
   arith,
