@@ -14,7 +14,7 @@ use tables::starts::table_box;
 // Refusal 3: every entry in the order of the list, left at the first that is out of range.
 // The range is found before the slices, since none depends on the slice.
 // Nested loops with a running place, left by label: the form of `test_rows`, which document 01 names for the walk over the rows. So all such walks read alike.
-#[tactic(auto, unfolding(sums::specs::Span::upto))]
+#[tactic(auto, unfolding(sums::specs::Span::upto), using(sums::proofs::Spans::upto_step))]
 pub fn test_entries(tables: &Tables) -> Result<(), Refusal>
     ensures { result ≡ outcome (entries_fault (data_of tables.now)) }
 {

@@ -31,7 +31,7 @@ fn test_column(pricing: &Pricing, p: Place, unit: Sum, column: usize) -> Result<
 
 // Refusals 11 and 12. The price of a unit is found before the slices, since it does not depend on them.
 // The same form as `test_rows`, which document 01 names: one reading and the same laws (tables/proofs/Steps.antt) serve both.
-#[tactic(auto, unfolding(sums::specs::Span::upto, sums::specs::Sum::sum))]
+#[tactic(auto, unfolding(sums::specs::Span::upto, sums::specs::Sum::sum), using(sums::proofs::Spans::upto_step))]
 pub fn test_columns(pricing: &Pricing) -> Result<(), Refusal>
     ensures { result ≡ outcome (columns_fault (data_of pricing.now.tested.tables.now) pricing.now.multipliers.list.now) }
 {

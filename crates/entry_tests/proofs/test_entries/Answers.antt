@@ -44,15 +44,6 @@ loop-s-preserved c =
     (c.range_at-r.ensures c.loop-y.y v.s) c.in_range.ensures in
     turned v.invariant c.loop-s-test.true v.invariant.going (entry ∙ rw (c.if-not-in_range.false)) (omega (arith, v.invariant.here))
 
-pub loop-j-preserved : goal.loop-j-preserved
-loop-j-preserved c = turn c.loop-j.invariant c.loop-j-test.true c.loop-s.invariant c.loop-s-test.false refl (omega arith)
-
-pub loop-i-preserved : goal.loop-i-preserved
-loop-i-preserved c = turn c.loop-i.invariant c.loop-i-test.true c.loop-j.invariant c.loop-j-test.false refl (omega arith)
-
-pub loop-y-preserved : goal.loop-y-preserved
-loop-y-preserved c = turn c.loop-y.invariant c.loop-y-test.true c.loop-i.invariant c.loop-i-test.false refl (omega arith)
-
 pub walk-preserved : goal.walk-preserved
 walk-preserved c =
     turn c.walk.invariant c.walk-test.true c.loop-y.invariant c.loop-y-test.false (box-faults c.args.tables.now.laid_out c.walk-test.true c.table_box-b.ensures.0)

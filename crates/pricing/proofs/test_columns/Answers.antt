@@ -35,12 +35,6 @@ loop-s-preserved c =
 pub loop-j-preserved : goal.loop-j-preserved
 loop-j-preserved c = turn c.loop-j.invariant c.loop-j-test.true c.loop-s.invariant c.loop-s-test.false refl (omega arith)
 
-pub loop-i-preserved : goal.loop-i-preserved
-loop-i-preserved c = turn c.loop-i.invariant c.loop-i-test.true c.loop-j.invariant c.loop-j-test.false refl (omega arith)
-
-pub loop-y-preserved : goal.loop-y-preserved
-loop-y-preserved c = turn c.loop-y.invariant c.loop-y-test.true c.loop-i.invariant c.loop-i-test.false refl (omega arith)
-
 pub walk-preserved : goal.walk-preserved
 walk-preserved c =
     let l = c.walk-test.true in

@@ -1,7 +1,7 @@
 use mathlib.Core.Path.{refl, sym, ap, ◌∙◌}
 use native.Mathlib.Omega.{arith}
 use Rattle.model.specs.declared.Family.{Family}
-use Rattle.tables.proofs.Steps.{more, turn, walked_more, walked_all, member-number, member_below, stopped, outcome-fine, outcome-fails}
+use Rattle.tables.proofs.Steps.{more, walked_more, walked_all, member-number, member_below, stopped, outcome-fine, outcome-fails}
 use Rattle.row_tests.proofs.Steps.{box-is, inside_is, family-below, families-end, rows_fit, answered}
 use Rattle.row_tests.proofs.test_rows.Goals as goal
 
@@ -33,16 +33,6 @@ pub loop-s-preserved : goal.loop-s-preserved
 loop-s-preserved c =
     let h = c.loop-s.invariant in
     more h c.loop-s-test.true (outcome-fine _ (rw c.year_of-year.ensures.0 at c.test_row.ensures) c.in-Ok.is) h.accepted refl
-
-pub loop-j-preserved : goal.loop-j-preserved
-loop-j-preserved c = turn c.loop-j.invariant c.loop-j-test.true c.loop-s.invariant c.loop-s-test.false refl (omega arith)
-
-pub loop-i-preserved : goal.loop-i-preserved
-loop-i-preserved c = turn c.loop-i.invariant c.loop-i-test.true c.loop-j.invariant c.loop-j-test.false refl (omega arith)
-
-pub loop-y-preserved : goal.loop-y-preserved
-loop-y-preserved c =
-    turn c.loop-y.invariant c.loop-y-test.true c.loop-i.invariant c.loop-i-test.false refl (omega arith)
 
 pub walk-preserved : goal.walk-preserved
 walk-preserved c =
