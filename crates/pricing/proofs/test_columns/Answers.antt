@@ -1,6 +1,6 @@
 use mathlib.Core.Path.{refl, ◌∙◌}
 use native.Mathlib.Omega.{arith}
-use Rattle.tables.proofs.Steps.{more, turn, walked_more, walked_all, member-number, member_below, stopped, outcome-fine, outcome-fails}
+use Rattle.tables.proofs.Steps.{turn, walked_more, walked_all, member-number, member_below, stopped, outcome-fails}
 use Rattle.column_terms.proofs.Laws.{counts_of}
 use Rattle.pricing.proofs.Steps.{table_below, tables_end, columns-fit, box-is, column-member, answered}
 use Rattle.pricing.proofs.test_columns.Goals as goal
@@ -26,11 +26,6 @@ overflow_add-column c =
     let b = c.column_box-b.ensures in
     let few = member_below c.walk.invariant (table_below _ l) (box-is _ l b.0) c.loop-y.invariant hy c.loop-i.invariant hi c.loop-j.invariant hj c.loop-s.invariant hs b.1 in
     record { fits = omega (arith, columns-fit _ few) }
-
-pub loop-s-preserved : goal.loop-s-preserved
-loop-s-preserved c =
-    let h = c.loop-s.invariant in
-    more h c.loop-s-test.true (outcome-fine _ c.test_column.ensures c.in-Ok.is) h.accepted refl
 
 pub loop-j-preserved : goal.loop-j-preserved
 loop-j-preserved c = turn c.loop-j.invariant c.loop-j-test.true c.loop-s.invariant c.loop-s-test.false refl (omega arith)

@@ -1,7 +1,7 @@
-use mathlib.Core.Path.{refl, sym, ap, ◌∙◌}
+use mathlib.Core.Path.{sym, ap, ◌∙◌}
 use native.Mathlib.Omega.{arith}
 use Rattle.model.specs.declared.Family.{Family}
-use Rattle.tables.proofs.Steps.{more, walked_more, walked_all, member-number, member_below, stopped, outcome-fine, outcome-fails}
+use Rattle.tables.proofs.Steps.{walked_more, walked_all, member-number, member_below, stopped, outcome-fails}
 use Rattle.row_tests.proofs.Steps.{box-is, inside_is, family-below, families-end, rows_fit, answered}
 use Rattle.row_tests.proofs.test_rows.Goals as goal
 
@@ -28,11 +28,6 @@ overflow_add-row c =
     let b = box-is _ l c.family_at-f.ensures c.box_of-b.ensures.0 in
     let few = member_below c.walk.invariant (family-below _ l) b c.loop-y.invariant hy c.loop-i.invariant hi c.loop-j.invariant hj c.loop-s.invariant hs c.box_of-b.ensures.1 in
     record { fits = omega (arith, rows_fit _ few) }
-
-pub loop-s-preserved : goal.loop-s-preserved
-loop-s-preserved c =
-    let h = c.loop-s.invariant in
-    more h c.loop-s-test.true (outcome-fine _ (rw c.year_of-year.ensures.0 at c.test_row.ensures) c.in-Ok.is) h.accepted refl
 
 pub walk-preserved : goal.walk-preserved
 walk-preserved c =
