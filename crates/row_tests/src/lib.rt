@@ -28,6 +28,7 @@ fn test_row(year: &Year, scale: u64, p: Place, equal: bool, row: usize) -> Resul
 
 // Refusals 6 and 7.
 // Document 01 names this form: nested loops, left by label with the row number at the first row not met. So that number is counted beside them.
+#[tactic(auto, unfolding(sums::specs::Span::upto, sums::specs::Sum::sum), using(sums::proofs::Spans::upto_step))]
 pub fn test_rows(tested: &TestedCase, scale: u64) -> Result<(), Refusal>
     ensures { result ≡ outcome (rows_fault (data_of tested.now.case.now.tables) scale (entry_of tested.now.case.now.plan)) }
 {

@@ -22,6 +22,7 @@ use parts::years::part_at;
 use row_sums::{Change, Sides, at_most, empty};
 use tables::lists::{Case, Entries, Tables};
 use tables::names::{CAP, EFFICIENCY};
+use terms::totals::product_if;
 
 // A year's part here and below is a bare slice, and each contract says what it is: document 01 has it as a slice part, handed on to row tests and posting.
 // No struct of all the year's parts (`rows::years::Year`) is handed over: it would ask each row for parts that it does not read.
@@ -70,7 +71,7 @@ pub fn charge_limit(case: &Case, charges: &[u32], y: usize, g: usize, s: usize) 
 {
     let limit = case.plan.by_year_plant(CAP, y, g);
     Sides {
-        above: capped::add_product_if(case.tables.is_battery(g), capped::zero(), 1, limit),
+        above: product_if(case.tables.is_battery(g), 1, limit),
         below: capped::product(1, part_at(charges, case.plan.counts, g, s)),
     }
 }

@@ -3,12 +3,11 @@
 use Rattle.std.specs.Prelude.{Result, Ok, Err}
 use mathlib.Core.Path.{◌≡◌, refl, ap, ◌∙◌}
 use mathlib.Core.List.{List}
-use Prim.Native.Nat.{ℕ, ◌+◌, ◌*◌, ◌≤◌, ◌<◌, zero-le}
+use Prim.Native.Nat.{ℕ, ◌+◌, ◌*◌, ◌≤◌, ◌<◌}
 use native.Mathlib.Nat.{mul-le-mul, le_antisymm}
 use native.Mathlib.Omega.{arith}
 use lib.ListN.{length}
 use Rattle.sums.specs.declared.Box.{Box}
-use Rattle.sums.specs.Sum.{sum}
 use Rattle.sums.specs.Span.{Fault, fine, fault, upto, first}
 use Rattle.sums.specs.Index.{Index, index, box_of, volume, inside, start, number, members}
 use Rattle.sums.proofs.Sums.{sum-one-more}
@@ -29,10 +28,6 @@ pub record Going (t : ℕ → Fault Refusal) (n w from k row : ℕ) (answer : Re
   pub within : k ≤ n
   pub passed : upto k t ≡ fine
   pub numbered : row ≡ from + k * w
-
-pub none : {t : ℕ → Fault Refusal} {n w row : ℕ} {answer : Result (Unit {0}) Refusal} → answer ≡ Ok tt → Going t n w row 0 row answer
-unfolding upto
-none e = record { accepted = e; within = zero-le; passed = refl; numbered = omega arith }
 
 -- its end
 pub all : {t : ℕ → Fault Refusal} {n w from k row : ℕ} {answer : Result (Unit {0}) Refusal} → Going t n w from k row answer → n ≤ k → (upto n t ≡ fine) × (row ≡ from + n * w)
@@ -72,10 +67,6 @@ pub record Walked (T : Index → Fault Refusal) (boxes : List Box) (k row : ℕ)
   pub passed : upto k (λ i. of_kind T (box_of boxes i) i) ≡ fine
   pub numbered : row ≡ start boxes k
   pub few : row ≤ 983040 * k
-
-pub walked_none : {T : Index → Fault Refusal} {boxes : List Box} {row : ℕ} {answer : Result (Unit {0}) Refusal} → row ≡ 0 → answer ≡ Ok tt → Walked T boxes 0 row answer
-unfolding upto sum
-walked_none z e = record { accepted = e; within = omega arith; passed = refl; numbered = z; few = omega arith }
 
 module _ {T : Index → Fault Refusal} {boxes : List Box} {k row : ℕ} {answer : Result (Unit {0}) Refusal} (h : Walked T boxes k row answer) where
   pub walked_more : {b : Box} {y next : ℕ} {later : Result (Unit {0}) Refusal} → k < length boxes → b ≡ box_of boxes k → Small b

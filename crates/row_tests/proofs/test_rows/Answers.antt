@@ -1,25 +1,9 @@
-use mathlib.Core.Path.{refl, sym, ap, ◌∙◌}
+use mathlib.Core.Path.{sym, ap, ◌∙◌}
 use native.Mathlib.Omega.{arith}
 use Rattle.model.specs.declared.Family.{Family}
-use Rattle.tables.proofs.Steps.{none, more, turn, walked_none, walked_more, walked_all}
-use Rattle.tables.proofs.Steps.{member-number, member_below, stopped, outcome-fine, outcome-fails}
+use Rattle.tables.proofs.Steps.{walked_more, walked_all, member-number, member_below, stopped, outcome-fails}
 use Rattle.row_tests.proofs.Steps.{box-is, inside_is, family-below, families-end, rows_fit, answered}
 use Rattle.row_tests.proofs.test_rows.Goals as goal
-
-pub walk-init : goal.walk-init
-walk-init c = walked_none refl refl
-
-pub loop-y-init : goal.loop-y-init
-loop-y-init c = none c.walk.invariant.accepted
-
-pub loop-i-init : goal.loop-i-init
-loop-i-init c = none c.loop-y.invariant.accepted
-
-pub loop-j-init : goal.loop-j-init
-loop-j-init c = none c.loop-i.invariant.accepted
-
-pub loop-s-init : goal.loop-s-init
-loop-s-init c = none c.loop-j.invariant.accepted
 
 pub test_row-requires : goal.test_row-requires
 test_row-requires c =
@@ -44,21 +28,6 @@ overflow_add-row c =
     let b = box-is _ l c.family_at-f.ensures c.box_of-b.ensures.0 in
     let few = member_below c.walk.invariant (family-below _ l) b c.loop-y.invariant hy c.loop-i.invariant hi c.loop-j.invariant hj c.loop-s.invariant hs c.box_of-b.ensures.1 in
     record { fits = omega (arith, rows_fit _ few) }
-
-pub loop-s-preserved : goal.loop-s-preserved
-loop-s-preserved c =
-    let h = c.loop-s.invariant in
-    more h c.loop-s-test.true (outcome-fine _ (rw c.year_of-year.ensures.0 at c.test_row.ensures) c.in-Ok.is) h.accepted refl
-
-pub loop-j-preserved : goal.loop-j-preserved
-loop-j-preserved c = turn c.loop-j.invariant c.loop-j-test.true c.loop-s.invariant c.loop-s-test.false refl (omega arith)
-
-pub loop-i-preserved : goal.loop-i-preserved
-loop-i-preserved c = turn c.loop-i.invariant c.loop-i-test.true c.loop-j.invariant c.loop-j-test.false refl (omega arith)
-
-pub loop-y-preserved : goal.loop-y-preserved
-loop-y-preserved c =
-    turn c.loop-y.invariant c.loop-y-test.true c.loop-i.invariant c.loop-i-test.false refl (omega arith)
 
 pub walk-preserved : goal.walk-preserved
 walk-preserved c =
