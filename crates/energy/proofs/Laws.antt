@@ -2,8 +2,8 @@
 use mathlib.Core.Path.{◌≡◌, refl, sym, ap, ◌∙◌}
 use mathlib.Core.Bool.{Bool, true, false, ◌&&◌}
 use mathlib.Core.List.{List}
-use Prim.Native.Nat.{ℕ, zero, suc, ◌+◌, ◌*◌, ◌≤◌, ◌<◌}
-use native.Mathlib.Nat.{add-zero, mul_comm, mul-le-mul, mul_assoc}
+use Prim.Native.Nat.{ℕ, zero, suc, ◌+◌, ◌*◌, ◌<◌}
+use native.Mathlib.Nat.{add-zero, mul_comm, mul_assoc}
 use native.Mathlib.Numerals.{add-one}
 use native.Mathlib.Omega.{arith}
 use lib.Dec.{eqb}
@@ -33,11 +33,6 @@ all_more k p f e h v w = e ∙ rw (h, v, w) (ap (λ (n : ℕ). all_if n p f) (sy
 -- The places
 
 module _ {c : Counts} (few : Counted c) where
-  -- a year's plant, and the first place of its energies
-  pub few-plants : {y g : ℕ} → y < c.years → g < c.plants → (y * c.plants + g ≤ 319) × ((y * c.plants + g) * c.seasons ≤ 1276)
-  few-plants {y} {g} hy hg =
-      let n : y * c.plants + g ≤ 319 = omega (arith, below-product c.years c.plants hy hg, mul-le-mul few.few_years few.few_plants) in
-      (n, mul-le-mul n few.few_seasons)
 
   -- a slice of a season is one of the year's
   pub slice-below : {q i : ℕ} → q < c.seasons → i < season_length c → q * season_length c + i < slices_of c

@@ -1,17 +1,13 @@
 -- Laws of the calendar and of the year's parts.
-use mathlib.Core.Path.{◌≡◌}
 use Prim.Native.Nat.{ℕ, ◌+◌, ◌*◌, ◌≤◌, ◌<◌}
-use native.Mathlib.Nat.{mul-pos, mul-le-mul}
+use native.Mathlib.Nat.{mul-le-mul}
 use Rattle.sums.proofs.Numbering.{below-product}
 use Rattle.model.specs.declared.Counts.{Counts}
-use Rattle.model.specs.Counts.{slices_of, season_length}
+use Rattle.model.specs.Counts.{slices_of}
 use Rattle.tables.specs.Layout.{Counted}
 use Rattle.tables.proofs.Laws.{few-slices}
 
 module _ {c : Counts} (n : Counted c) where
-  -- a season has slices
-  pub some-slices : 0 < season_length c
-  some-slices = mul-pos n.some_days n.some_hours
 
   -- a plant's slice in a year's part
   pub part-below : (g s : ℕ) → g < c.plants → s < slices_of c → g * slices_of c + s < c.plants * slices_of c
@@ -19,7 +15,3 @@ module _ {c : Counts} (n : Counted c) where
 
   pub few-places : c.plants * slices_of c ≤ 12288
   few-places = mul-le-mul n.few_plants (few-slices n)
-
-  -- the same where the code has the number of slices in a local
-  pub place-below : {m : ℕ} (g s : ℕ) → m ≡ slices_of c → g < c.plants → s < slices_of c → g * m + s < c.plants * slices_of c
-  place-below g s e hg hs = rw e (part-below g s hg hs)

@@ -1,5 +1,5 @@
 // The year's parts of the tables by year, plant and slice (gen, reserve, charge and level).
-ghost use Rattle.std.specs.Prelude.{◌≡◌, ℕ, ◌+◌, ◌*◌, ◌≤◌, ◌<◌, length, get_or, take, drop};
+ghost use Rattle.std.specs.Prelude.{◌≡◌, ◌+◌, ◌*◌, ◌≤◌, ◌<◌, length, get_or, take, drop};
 ghost use Rattle.model.specs.Counts.{slices_of, [ygs]};
 ghost use Rattle.model.specs.Columns.{column_sets, column_kind_count};
 ghost use Rattle.model.specs.Data.{most32};
@@ -21,13 +21,13 @@ pub fn plan_part<'a>(plan: &Plan<'a>, t: usize, y: usize) -> &'a [u32]
 }
 
 // Of years of so many places each, one after another from a place on, those of year y.
-pub fn year_part(list: &[u32], from: usize, places: usize, y: usize) -> &[u32]
-    requires { (from + (y + 1) * places ≤ length list.now) × ((places ≤ 12288) × (y < 10)) }
-    ensures { result.now ≡ take places (drop (from + y * places) list.now) }
+pub fn year_part(plan: &[u32], from: usize, places: usize, y: usize) -> &[u32]
+    requires { (from + (y + 1) * places ≤ length plan.now) × ((places ≤ 12288) × (y < 10)) }
+    ensures { result.now ≡ take places (drop (from + y * places) plan.now) }
 {
     let start = from + y * places;
     let end = start + places;
-    &list[start..end]
+    &plan[start..end]
 }
 
 // An entry of a year's part, by plant and slice. `Counted` is asked: the reason stands beside it (tables/specs/Layout.antt).

@@ -14,9 +14,7 @@ use Rattle.model.specs.Counts.{sets}
 use Rattle.model.specs.Data.{Data}
 use Rattle.model.specs.Columns.{column_sets, column_boxes, column_kind_count}
 use Rattle.model.specs.Tests.{column_fault, columns_fault}
-use Rattle.tables.specs.Layout.{Counted}
 use Rattle.tables.proofs.Laws.{box-at}
-use Rattle.tables.proofs.Members as members
 
 -- as many kinds of column as the walk counts
 pub table_below : (c : Counts) {k : ℕ} → k < column_kind_count → k < length (column_boxes c)
@@ -39,9 +37,6 @@ module _ (c : Counts) {k : ℕ} {b : Box} (l : k < column_kind_count) (e : b ≡
 
   pub column-member : {y i j s : ℕ} → y < b.years → i < b.firsts → j < b.seconds → s < b.slices → Member (column_boxes c) (index k y i j s)
   column-member hy hi hj hs = (table_below c l, rw (← box-is) hy, rw (← box-is) hi, rw (← box-is) hj, rw (← box-is) hs)
-
-  pub year-below : {y : ℕ} → Counted c → y < b.years → y < c.years
-  year-below n hy = members.year-below (get_or column_sets k 0) n e hy
 
 -- the walk's answer
 pub answered : (D : Data) (ms : List ℤ) {c : Counts} {f : Fault Refusal} → D.counts ≡ c → first (members (column_boxes c)) (column_fault D ms) ≡ f

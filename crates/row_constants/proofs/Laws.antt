@@ -7,11 +7,10 @@ use native.Mathlib.Omega.{arith}
 use lib.Dec.{ltb}
 use lib.ListN.{get_or}
 use Rattle.sums.specs.Sum.{on}
-use Rattle.sums.specs.Index.{index, Member}
+use Rattle.sums.specs.Index.{index}
 use Rattle.sums.proofs.Lists.{Alls, at_place, ◌and◌}
-use Rattle.model.specs.declared.Counts.{Counts}
 use Rattle.model.specs.Data.{Data, after_first_hour, on_min_load_day, is_vre, is_battery}
-use Rattle.model.specs.Families.{Equation, equation, equations, row_boxes, empty, out_of_service, family_count}
+use Rattle.model.specs.Families.{Equation, equation, equations, empty, out_of_service, family_count}
 use Rattle.tables.proofs.Laws.{among, NoneAmong, none-among}
 use Rattle.constants.specs.Constants.{constant_of, no_constant, has_constant}
 use Rattle.constants.proofs.Laws.{constant-is}
@@ -56,10 +55,6 @@ module _ (D : Data) (y i j s : ℕ) where
       constant-is (sym t.0) (sym t.1)
 
 -- The dispatcher
-
--- what an arm knows of the row, by its key
-pub member-at : (c : Counts) {k y i j s : ℕ} (K : ℕ) → k ≡ K → Member (row_boxes c) (index k y i j s) → Member (row_boxes c) (index K y i j s)
-member-at c K e m = rw e at m
 
 -- the families that have an arm of their own
 abbrev arms : List ℕ

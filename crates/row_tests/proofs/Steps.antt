@@ -14,9 +14,8 @@ use Rattle.model.specs.Counts.{sets}
 use Rattle.model.specs.Data.{Data}
 use Rattle.model.specs.Families.{family, families, family_of, row_boxes, family_count}
 use Rattle.model.specs.Tests.{row_fault, rows_fault}
-use Rattle.tables.specs.Layout.{Counted, Inside}
+use Rattle.tables.specs.Layout.{Inside}
 use Rattle.tables.proofs.Laws.{get_or-map-in}
-use Rattle.tables.proofs.Members as members
 
 -- The families' index sets
 
@@ -31,9 +30,6 @@ module _ (c : Counts) {k : ℕ} {f : Family} {b : Box} (l : k < family_count) (e
 
   pub inside_is : {y i j s : ℕ} → y < b.years → i < b.firsts → j < b.seconds → s < b.slices → Inside c (family_of k).set y i j s
   inside_is hy hi hj hs = record { year = rw (← set_is) hy; «first» = rw (← set_is) hi; second = rw (← set_is) hj; slice = rw (← set_is) hs }
-
-  pub year-below : {y : ℕ} → Counted c → y < b.years → y < c.years
-  year-below n hy = members.year-below (family_of k).set n set_is hy
 
 -- as many families as the walk counts
 pub family-below : (c : Counts) {k : ℕ} → k < family_count → k < length (row_boxes c)

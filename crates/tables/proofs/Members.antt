@@ -1,5 +1,5 @@
 -- A row, a column and a data entry: the index set of its kind, its four indices inside that set, and its year.
-use mathlib.Core.Path.{◌≡◌, ap}
+use mathlib.Core.Path.{◌≡◌}
 use mathlib.Core.Bool.{false}
 use mathlib.Core.List.{List}
 use Prim.Native.Nat.{ℕ, ◌≤◌, ◌<◌}
@@ -41,9 +41,6 @@ module _ (c : Counts) {k y i j s : ℕ} where
 -- an index set has the plan's years, or one
 few-years : (c : Counts) → 1 ≤ c.years → (n : ℕ) → (box_of (sets c) n).years ≤ c.years
 few-years c h n = at-any (λ b. b.years ≤ c.years) (sets c) (box 0 0 0 0) (omega arith) (omega arith) n
-
-pub year-below : {c : Counts} {b : Box} (n : ℕ) {y : ℕ} → Counted c → b ≡ box_of (sets c) n → y < b.years → y < c.years
-year-below {c} n few e h = omega (arith, few-years c few.some_years n, ap (λ (a : Box). a.years) e)
 
 pub year-inside : {c : Counts} {n y i j s : ℕ} → Counted c → Inside c n y i j s → y < c.years
 year-inside {c} {n} few h = omega (arith, few-years c few.some_years n, h.year)
