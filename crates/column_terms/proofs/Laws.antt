@@ -1,9 +1,9 @@
--- The sums of a column, made term by term: the laws of the steps and of the loops, and the ramps by the names of the model. Assumes nothing.
--- `Priced` and `Walked` are records, so that a law finds the coefficients in them.
+-- The sums of a column, made term by term: the laws of the steps and of the groups, and the ramps by the names of the model. Assumes nothing.
+-- `Priced` is a record, so that a law finds the coefficients in it.
 use mathlib.Core.Path.{◌≡◌, refl, sym, ap₂, ◌∙◌}
 use mathlib.Core.Bool.{Bool, true, false}
 use mathlib.Core.List.{List}
-use Prim.Native.Nat.{ℕ, ◌+◌, ◌≤◌, ◌<◌, zero-le}
+use Prim.Native.Nat.{ℕ, ◌+◌, ◌<◌}
 use native.Mathlib.Nat.{add-sub_cancel}
 use native.Mathlib.Omega.{arith}
 use lib.IntN.{ℤ}
@@ -60,10 +60,17 @@ pair_is p q = ap₂ (λ (u d : ℕ). record { up = cap u; down = cap d }) p q
 pub record Priced (c : Counts) (ms : List ℤ) (a b : Linear) (p : Pair) : Type 0 where
   pub is : p ≡ pair_of c ms a b
 
--- a loop after k of its n turns
-pub record Walked (c : Counts) (ms : List ℤ) (n : ℕ) (a b : ℕ → Linear) (k : ℕ) (p : Pair) : Type 0 where
-  pub upto : k ≤ n
-  pub so : p ≡ pair_of c ms (∑ k a) (∑ k b)
+-- groups of rows, none of them and one more
+module _ (c : Counts) (ms : List ℤ) (a b : ℕ → Linear) where
+  pub none-summed : {p : Pair} → p ≡ no_terms → p ≡ pair_of c ms (∑ 0 a) (∑ 0 b)
+  unfolding no_terms pair_of sum
+  none-summed e = e
+
+  pub join-summed : (k : ℕ) {p q r : Pair} → p ≡ pair_of c ms (∑ k a) (∑ k b) → q ≡ pair_of c ms (a k) (b k) → r ≡ joined p q
+      → r ≡ pair_of c ms (∑ (k + 1) a) (∑ (k + 1) b)
+  unfolding joined pair_of
+  join-summed k d e f =
+      f ∙ rw (d, e, both-cap, both-cap, sum-one-more, sum-one-more, sum-one-more, sum-one-more) (pair_is (omega arith) (omega arith))
 
 module _ {c : Counts} {ms : List ℤ} where
   pub none-priced : {p : Pair} → p ≡ no_terms → Priced c ms nothing nothing p
@@ -100,16 +107,6 @@ module _ {c : Counts} {ms : List ℤ} where
         h.is
         ∙ pair_is (ap₂ (λ (u v : ℕ). u + v) (f (λ r. (row_multiplier c ms r).up)) (g (λ r. (row_multiplier c ms r).down)))
         (ap₂ (λ (u v : ℕ). u + v) (f (λ r. (row_multiplier c ms r).down)) (g (λ r. (row_multiplier c ms r).up)))
-
-  pub walked_none : {n : ℕ} {a b : ℕ → Linear} {p : Pair} → p ≡ no_terms → Walked c ms n a b 0 p
-  unfolding no_terms pair_of sum
-  walked_none e = record { upto = zero-le; so = e }
-
-  module _ {n : ℕ} {a b : ℕ → Linear} {k : ℕ} {p : Pair} (h : Walked c ms n a b k p) where
-    pub walked_more : {q r : Pair} → k < n → q ≡ pair_of c ms (a k) (b k) → r ≡ joined p q → Walked c ms n a b (k + 1) r
-    unfolding joined pair_of
-    walked_more l d e =
-        record { upto = omega arith; so = e ∙ rw (h.so, d, both-cap, both-cap, sum-one-more, sum-one-more, sum-one-more, sum-one-more) (pair_is (omega arith) (omega arith)) }
 
 -- the ramps that `in_ramps` sums are those in which the model has the columns of a plant's slice
 pub ramps-are : (D : Data) {c : Counts} → D.counts ≡ c → (fall rise y g s : ℕ) → in_ramps c fall rise y g s ≡ ramps_in D (fall + 1) (rise + 1) y g s

@@ -32,16 +32,11 @@ impl Pair {
     }
 
     // The terms of n groups of rows: where those of each group i are the rows with the coefficients a i and −b i, it is the pair of all of them.
-    // A loop, as `terms::totals::total` is; the reason stands there.
     pub fn total<F: Fn(usize) -> Pair>(n: usize, terms: F) -> Pair
         requires { (i : ℕ) → i < n → F.pre terms i }
         ensures { (c : Counts) (ms : List ℤ) (a b : ℕ → Linear) → ((i : ℕ) (r : Pair) → i < n → F.post terms i r → r ≡ pair_of c ms (a i) (b i)) → result ≡ pair_of c ms (∑ n a) (∑ n b) }
     {
-        let mut p = Pair::none();
-        for i in 0..n {
-            p = p.join(terms(i));
-        }
-        p
+        (0..n).map(terms).fold(Pair::none(), Pair::join)
     }
 
     // A term with the coefficient a.

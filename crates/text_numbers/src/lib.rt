@@ -16,16 +16,14 @@ fn digit_of(b: u8) -> Option<u64>
     }
 }
 
-// The number that the digits write. A loop and no `try_fold`: as long, and its `?` shows that a byte which is no digit ends it.
+// The number that the digits write.
 fn number_of(digits: &[u8]) -> Option<u64>
     requires { length digits.now ≤ 16 }
     ensures { result ≡ digits_at digits.now 0 (length digits.now) }
 {
-    let mut v = 0;
-    for &b in digits {
-        v = 16 * v + digit_of(b)?;
-    }
-    Some(v)
+    digits
+        .iter()
+        .try_fold(0, |v, &b| Some(16 * v + digit_of(b)?))
 }
 
 // A space, and behind it a number's digits.

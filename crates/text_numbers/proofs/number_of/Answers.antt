@@ -1,27 +1,22 @@
-use mathlib.Core.Path.{refl, sym, ◌∙◌}
-use native.Mathlib.Nat.{zero-add}
-use native.Mathlib.Omega.{arith}
 use borrow.Author.Rules.{rules}
-use Rattle.text_numbers.specs.Numbers.{digits_at}
-use Rattle.text_numbers.proofs.NumberLaws.{digits-low, digit-low, digits_more, digits-stop}
+use mathlib.Core.Path.{sym, refl, ◌∙◌}
+use native.Mathlib.Omega.{arith}
+use Rattle.text_numbers.specs.Numbers.{with_digit}
+use Rattle.text_numbers.proofs.NumberLaws.{digit-low, next-low, read-whole}
 use Rattle.text_numbers.proofs.number_of.Goals as goal
 
-pub loop-b-init : goal.loop-b-init
-unfolding digits_at
-loop-b-init c = refl
+pub try_fold-requires-clause-callable : goal.try_fold-requires-clause-callable
+unfolding with_digit
+try_fold-requires-clause-callable c = record {
+  at = λ xs t q x u y f s.
+      let low = next-low _ c.args.digits.now (λ p x q h. search rules) c.requires xs _ t _ q c.iter.ensures.rest refl y f s in (
+        (λ k r g a m b. record { fits = omega (arith, low) }),
+        λ k r g a m b d w e i j v. record { fits = omega (arith, low, digit-low x.now i.0.0 (sym d.ensures ∙ j)) },
+      );
+}
 
-pub overflow_mul-v : goal.overflow_mul-v
-overflow_mul-v c =
-    record { fits = omega (arith, digits-low _ _ _ _ (search rules) c.loop-b.invariant) }
-
-pub returns-in_err-v : goal.returns-in_err-v
-returns-in_err-v c =
-    c.from_residual.ensures ∙ digits-stop c.args.digits.now 0 c.loop-b.b-index _ (search rules) (rw zero-add (sym c.digit_of.ensures ∙ c.in_err-v.was))
-
-pub overflow_add-v : goal.overflow_add-v
-overflow_add-v c =
-    record { fits = omega (arith, digits-low _ _ _ _ (search rules) c.loop-b.invariant, digit-low _ _ (sym c.digit_of.ensures ∙ c.in_ok-v.was)) }
-
-pub loop-b-preserved : goal.loop-b-preserved
-loop-b-preserved c =
-    digits_more c.args.digits.now 0 c.loop-b.b-index _ c.in_ok-v.field-0 c.loop-b.invariant (rw zero-add (sym c.digit_of.ensures ∙ c.in_ok-v.was))
+pub returns : goal.returns
+unfolding with_digit
+returns c =
+    read-whole _ c.args.digits.now (λ p x q h. search rules) (λ x h. (search rules, search rules)) _ _ _ _ _ _ _ c.iter.ensures.rest refl
+    c.try_fold.ensures.ran.4.1 c.try_fold.ensures.ran.4.2 c.try_fold.ensures.ran.5 c.try_fold.ensures.ran.6
