@@ -4,7 +4,7 @@ use mathlib.Core.List.{List, [], ◌∷◌}
 use mathlib.Core.Logic.{⊎_elim}
 use mathlib.Core.Path.{◌≡◌, refl, sym, ap, subst, ◌∙◌}
 use Prim.Native.Nat.{ℕ, zero, suc, ◌+◌, ◌*◌, ◌-◌, ◌^◌, ◌≤◌, ◌<◌}
-use native.Mathlib.Nat.{zero-add, pow-suc, eq-or-lt_of_le, le_of_suc-le-suc}
+use native.Mathlib.Nat.{zero-add, pow-suc, pow-le-pow_right, eq-or-lt_of_le, le_of_suc-le-suc}
 use native.Mathlib.Numerals.{add-one}
 use native.Mathlib.Omega.{arith}
 use denote.Ref.{Bor}
@@ -61,6 +61,13 @@ pub number-low : (l : List ℕ) (at w : ℕ) {v : ℕ} → number_at l at w ≡ 
 number-low l at w e = rw e at (number-below l at w)
 
 -- What the code of `number_of` finds
+
+-- fifteen digits leave room for one more
+pub digits-low : (l : List ℕ) (at i v : ℕ) → i < 16 → digits_at l at i ≡ Some v → 16 * v + 15 < 2 ^ 64
+digits-low l at i v h e =
+    let p : v < 16 ^ i = rw e at (digits-below l at i) in
+    let r : 16 ^ i ≤ 16 ^ 15 = pow-le-pow_right {n = 16} (omega arith) {i = i} {j = 15} (omega arith) in
+    omega arith
 
 with_none : (x : Option ℕ) → None ≡ with_digit x None
 unfolding with_digit
