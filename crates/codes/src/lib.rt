@@ -43,7 +43,7 @@ pub fn code_of(refusal: Refusal) -> Code
     }
 }
 
-// What check and post answer. This and `certificate_code` are two: document 01 has two answers with a definition each, of two types.
+// What check and post answer. This and `certificate_code` are two: the definitions have two, of answers of two types.
 #[tactic(auto, unfolding(model::specs::Calls::answer_code))]
 pub fn answer_code(answer: Result<u64, Refusal>) -> Code
     ensures { result ≡ answer_code answer }

@@ -22,7 +22,7 @@ use sums::Place;
 use tables::starts::column_set;
 use writer::{Line, ROOM};
 
-// The tables of the plan's columns, by number.
+// The tables of the plan's columns, by number. A table beside `COLUMN_SETS` (tables): the calls for C stand on that crate, and have no words.
 const COLUMN_NAMES: [&str; COLUMN_KIND_COUNT] = [
     "cap",
     "build",

@@ -1,4 +1,5 @@
 // The columns under the multipliers: Σ m·a of each column, over the rows that it stands in, positive and negative terms apart.
+// A place is asked inside its index set (`Member`): the reason stands beside `Inside` (tables/specs/Layout.antt).
 #![tactic(auto)]
 
 ghost use Rattle.std.specs.Prelude.{◌≡◌};
@@ -21,7 +22,7 @@ use tables::names::{
 };
 use zone_columns::{shortfall_column, surplus_column, trans_column};
 
-// Column p, of any kind.
+// Column p, of any kind. By match over the kinds, as document 01 has it of the families: each arm takes the indices that its kind has.
 #[tactic(auto, unfolding(model::specs::Columns::column_boxes), using(tables::proofs::Laws::last_arm))]
 pub fn column_sums(pricing: &Pricing, p: Place) -> Pair
     requires { Member (column_boxes pricing.now.multipliers.counts) (index_of p) }

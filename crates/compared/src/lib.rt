@@ -18,8 +18,8 @@ pub enum NoBalance {
 // What is left when one sum is taken from others. It may be above the limit.
 pub type Balance = Result<u64, NoBalance>;
 
-// By number where both are exact; an exact sum is less than one that is over. Of two that are over nothing is known: so it is no `PartialOrd`, by which a sum that
-// equals itself would be neither less nor greater, and not the order of `Option`, whose None is least.
+// By number where both are exact; an exact sum is less than one that is over. No `PartialOrd`: by `Option`'s, None is least and equals itself, and of two sums
+// that are over nothing is known.
 #[tactic(auto, unfolding(crate::specs::Compared::order))]
 pub fn compare(s: Sum, t: Sum) -> Option<Ordering>
     ensures { result ≡ order s t }

@@ -5,8 +5,8 @@ ghost use Rattle.constants.specs.Constants.{has_constant};
 
 use model::FAMILY_COUNT;
 
-// Whether the rows of each family have a constant, in the order of documents 01 and 02. Beside the fixed table of families and no field of it: document 01 names
-// its three fields.
+// Whether the rows of each family have a constant, in the order of documents 01 and 02. Beside the fixed table of families and no field of it: document 01
+// names its three fields.
 const CONSTANT_FAMILIES: [bool; FAMILY_COUNT] = [
     true, // 1 balance
     true, // 2 transfer

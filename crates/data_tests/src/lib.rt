@@ -1,4 +1,5 @@
 // The tests of the data: refusals 1, 2, 3 and 16.
+// An index is asked below its count: the reason stands beside `Inside` (tables/specs/Layout.antt).
 #![tactic(auto)]
 
 ghost use Rattle.std.specs.Prelude.{ℕ, true, false, ◌≡◌, ◌&&◌, ◌≤◌, ◌<◌, length, get_or};
@@ -25,7 +26,8 @@ pub fn most_count(i: usize) -> u32
     MOST_COUNTS[i]
 }
 
-// The counts, the first seven numbers.
+// The counts, the first seven numbers. Seven are asked of the list, here and below, and no `&[u32; 7]` taken: its callers hold the whole list, which the
+// definitions read.
 pub fn counts_of(data: &[u32]) -> Counts
     requires { 7 ≤ length «data».now }
     ensures { result ≡ counts_of «data».now }

@@ -1,5 +1,6 @@
 // The multipliers that a caller hands to certify: the two parts of each, a row's multiplier by family and index, and refusals 9 and 10.
 // Signed numbers are met in `From<i64> for Multiplier` and `multiplier_in` only.
+// A place is asked inside its index set (`Member`): the reason stands beside `Inside` (tables/specs/Layout.antt).
 #![tactic(auto)]
 
 ghost use Rattle.std.specs.Prelude.{◌≡◌, ◌&&◌, ℕ, ◌+◌, ◌≤◌, ◌<◌, leb, pos, length, get_or};
@@ -33,7 +34,8 @@ use tables::starts::starts_of;
 const MOST_MULTIPLIER: u64 = 0x100_0000_0000;
 
 // The size of a multiplier above zero, and its size below zero; one of the two is 0. It is no `Pair` (column_terms), though its fields have the same names:
-// these are the parts of one signed number, and those are two capped sums.
+// these are the parts of one signed number, and those are two capped sums. Nor is it a `Constant` (constants): of that both parts may be above 0,
+// until `netted`.
 #[derive(Clone, Copy)]
 pub struct Multiplier {
     pub up: u64,
@@ -127,7 +129,8 @@ fn set_of(k: usize) -> usize
     }
 }
 
-// A multiplier for every row, with the counts and the starts of the families.
+// A multiplier for every row, with the counts and the starts of the families. A struct beside `Tables` and `Plan`: the reason stands there
+// (tables/src/lists.rt).
 #[derive(Drop)]
 pub struct Multipliers<'a> {
     pub list: &'a [i64],
@@ -138,8 +141,8 @@ pub struct Multipliers<'a> {
 }
 
 impl Multipliers<'_> {
-    // The multiplier of row p. With its family a constant, inlining leaves a few products and one read. The hint: certify's walk over the columns took
-    // half as long again where this was called and not inlined.
+    // The multiplier of row p. With its family a constant, inlining leaves a few products and one read. The hint, with
+    // those of `Pair` (column_terms): without them certify's walk over the columns took half as long again (docs/BENCHMARKS.md).
     #[inline(always)]
     pub fn at(&self, p: Place) -> Multiplier
         requires { Member (row_boxes self.now.counts) (index_of p) }

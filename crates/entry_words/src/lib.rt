@@ -19,7 +19,8 @@ use tables::lists::number_at;
 use tables::starts::table_set;
 use writer::{Line, ROOM};
 
-// The seven counts, in their order.
+// The seven counts, in their order. These names and those below stand beside `MOST_COUNTS` (data_tests) and `TABLE_SETS` (tables): the calls for C read those,
+// and have no words.
 const COUNT_NAMES: [&str; 7] = [
     "zones", "plants", "fuels", "seasons", "days", "hours", "years",
 ];

@@ -25,7 +25,7 @@ use tables::lists::Case;
 
 // Refusals 6, 7 and 8, and the cost. That the data passed is asked, of one caller: `TestedTables` holds a part of it, and a struct of it all would be made for
 // this call.
-// `case` and `scale` stand together as in `fleet_rows`.
+// `scale` stands beside `case` and is no field of it: the rows alone read it, and the cost is Σ price·entry at every scale.
 fn price(case: &Case, scale: u32) -> Result<u64, Refusal>
     requires { data_fault case.now.tables.list.now ≡ fine }
     ensures { result ≡ rows_and_cost (data_of case.now.tables) scale (entry_of case.now.plan) }

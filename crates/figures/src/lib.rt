@@ -1,5 +1,6 @@
 // The figures behind a refusal: the sums of a row, the sums and the price of a column, an entry and its range.
 // Each by the place that `places` finds, for lists that passed the refusals before.
+// A place is asked inside its index set (`Member`): the reason stands beside `Inside` (tables/specs/Layout.antt).
 #![tactic(auto)]
 
 ghost use Rattle.std.specs.Prelude.{◌≡◌, ℕ, ◌+◌, ◌-◌, length, Ok};
@@ -104,7 +105,8 @@ pub fn column_figures<'a>(data: &'a [u32], multipliers: &'a [i64], p: Place) -> 
     )
 }
 
-// The entry at `place` of data that passed refusals 1 and 2; `p` is what stands there.
+// The entry at `place` of data that passed refusals 1 and 2; `p` is what stands there. The data comes bare, as in `row_figures` and so in `entry_words`:
+// refusal 3 comes back without the tables.
 pub fn entry_figures(data: &[u32], p: Place, place: usize) -> EntryFigures
     requires { (or_else (head_fault «data».now) (or_else (counts_fault «data».now) (length_fault «data».now)) ≡ fine)
         × (Member (table_boxes (read «data».now).counts) (index_of p) × (place_of (read «data».now).counts (index_of p) ≡ place)) }

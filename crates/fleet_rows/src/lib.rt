@@ -21,10 +21,10 @@ use tables::sets::BY_YEAR_PLANT;
 use terms::plants::capital_sum;
 use terms::years::{earlier, over_years};
 
-// `case` and `scale` stand together where a row has a constant: the scale is handed beside the case, as N stands in the document's rows.
+// `case` and `scale` stand together where a row has a constant. A `Case` with the scale in it would ask one of the costs and the energies, which have none.
 // A row without a constant is the same at every scale and takes none.
-// `tables` and `energy` stand together below: that these are the data's energies (`Energies`) is a premise of the promise, and not asked. A struct that held the
-// fact, as `rows::years::TestedCase` of the one caller does, would ask it.
+// `tables` and `energy` stand together below: that these are the data's energies (`Energies`) is a premise of the promise, and not asked. A struct that held
+// the fact, as `rows::years::TestedCase` of the one caller does, would ask it.
 
 // 12 (34): existing, first year: cap = GenCap; later: cap = earlier cap − retire. Candidate: cap = earlier cap (0 in the first year) + build
 pub fn stock(case: &Case, scale: u64, y: usize, g: usize) -> Sides

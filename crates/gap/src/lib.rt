@@ -1,4 +1,5 @@
 // The gap of a certificate, cost + N·Σ m·k, and refusal 13.
+// A place is asked inside its index set (`Member`): the reason stands beside `Inside` (tables/specs/Layout.antt).
 #![tactic(auto)]
 
 ghost use Rattle.std.specs.Prelude.{◌≡◌, ◌≤◌, ◌<◌};

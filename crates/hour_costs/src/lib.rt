@@ -20,7 +20,7 @@ use tables::sets::{inside_of, slices_of};
 use tables::starts::{column_box, column_set};
 use terms::totals::total;
 
-// The slices of plant or zone i in year y: a part of the plan. `peaks` takes a part of the data by the same four lines, and says there why no method serves both.
+// The slices of plant or zone i in year y: a part of the plan. `peaks` takes a part of the data likewise, and says there why no method serves both.
 #[tactic(auto, using(column_prices::proofs::Laws::column_laws))]
 fn slices_at<'a>(plan: &Plan<'a>, t: usize, y: usize, i: usize) -> &'a [u32]
     requires { Hours plan.now.counts t y i }
@@ -63,7 +63,7 @@ fn hourly_cost(case: &Case, t: usize, y: usize) -> Sum
     total(b.firsts, |i| slices_cost(case, t, y, i))
 }
 
-// The kinds of column that are priced by the hour.
+// The kinds of column that are priced by the hour. They are summed by `total`, as those of `prices` are.
 const HOURLY: [usize; 5] = [GEN, RESERVE, UNMET, SURPLUS, SPINSHORT];
 
 // Σ price·entry of all tables priced by the hour, in year y.

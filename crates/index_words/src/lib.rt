@@ -29,7 +29,7 @@ enum Meaning {
 
 use Meaning::{Fuel, LoadDay, LoadSeason, Plant, Season, SecondZone, Slice, Year, Zone};
 
-// The index sets by code, each as what its indices stand for.
+// The index sets by code, each as what its indices stand for. A table beside `box_of` (tables): the calls for C stand on that one, and have no words.
 const SETS: [&[Meaning]; 19] = [
     &[Year, Zone, Slice],
     &[Year, Zone, SecondZone, Slice],

@@ -1,6 +1,7 @@
 // The length of a number in bits.
 //
-// `specs/Length.antt` has the definition, `specs/Claims.antt` what request (iii) promises of the product of two numbers by their lengths; `proofs/Laws.antt` proves both.
+// `specs/Length.antt` has the definition, `specs/Claims.antt` what request (iii) promises of the product of two numbers by their lengths;
+// `proofs/Laws.antt` proves both.
 #![tactic(auto)]
 
 ghost use Rattle.std.specs.Prelude.{◌≡◌, ◌+◌};

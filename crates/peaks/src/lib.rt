@@ -27,8 +27,8 @@ fn peak_of(demand: &[u32]) -> u32
     earlier.max(later)
 }
 
-// The largest Demand[y,z,·], over a part of the data. `hour_costs` takes a part of the plan by the same four lines. One method of `Entries` for both would need
-// the list and its starts as methods there: more lines than the four, with laws of their own.
+// The largest Demand[y,z,·], over a part of the data. `hour_costs` takes a part of the plan likewise. A method of `Entries` for both would have
+// a body in each impl, as `entry_in` has, and save nothing.
 #[tactic(auto, using(crate::proofs::Laws::part_below))]
 pub fn zone_peak(tables: &Tables, y: usize, z: usize) -> u64
     requires { (y < tables.now.counts.years) × (z < tables.now.counts.zones) }

@@ -18,7 +18,8 @@ use tables::names::{CAP, FIRMSHORT, TOTAL_LINES};
 use tables::starts::{column_box, column_set};
 use terms::totals::total;
 
-// price·entry of plant or zone i and second zone j in year y, of a table priced by the year.
+// price·entry of plant or zone i and second zone j in year y, of a table priced by the year. That it is one is asked here and below (`Yearly`): an enum of the
+// three would need an arm for each, back to its number.
 #[tactic(auto, using(crate::proofs::Laws::year_laws))]
 fn unit_cost(case: &Case, t: usize, y: usize, i: usize, j: usize) -> Sum
     requires { Yearly t × ((y < case.now.plan.counts.years) × ((i < firsts_of case.now.plan.counts t) × (j < seconds_of case.now.plan.counts t))) }
@@ -39,7 +40,8 @@ fn units_cost(case: &Case, t: usize, y: usize, i: usize) -> Sum
     total(b.seconds, |j| unit_cost(case, t, y, i, j))
 }
 
-// Σ price·entry of a table priced by the year, in year y.
+// Σ price·entry of a table priced by the year, in year y. `hourly_cost` (hour_costs) is these two lines over `slices_cost`: one function for both would be
+// handed the closure, and so be `total`.
 #[tactic(auto, using(crate::proofs::Laws::year_laws))]
 fn yearly_cost(case: &Case, t: usize, y: usize) -> Sum
     requires { Yearly t × (y < case.now.plan.counts.years) }
@@ -49,7 +51,7 @@ fn yearly_cost(case: &Case, t: usize, y: usize) -> Sum
     total(b.firsts, |i| units_cost(case, t, y, i))
 }
 
-// The kinds of column that are priced by the year.
+// The kinds of column that are priced by the year. They are summed by `total`, whose promise is the sum; a `fold` over the array would be proved once more.
 const YEARLY: [usize; 3] = [CAP, FIRMSHORT, TOTAL_LINES];
 
 // Σ price·entry in year y; build, retire, trans, charge, level and built have no price.

@@ -1,4 +1,5 @@
 // The walk over all columns, in the order of the plan, left at the first that is off scale or underpriced: refusals 11 and 12.
+// A place is asked inside its index set (`Member`): the reason stands beside `Inside` (tables/specs/Layout.antt).
 #![tactic(auto)]
 
 ghost use Rattle.std.specs.Prelude.{◌≡◌};

@@ -1,4 +1,5 @@
 // The range of each entry of the data, both ends included.
+// An index is asked below its count: the reason stands beside `Inside` (tables/specs/Layout.antt).
 #![tactic(auto)]
 
 ghost use Rattle.std.specs.Prelude.{◌≡◌, ℕ, ◌+◌, ◌-◌, ◌≤◌, ◌<◌, get_or};
@@ -42,7 +43,8 @@ const FLAG: Range = Range { least: 0, most: 1 };
 
 const ZERO: Range = Range { least: 0, most: 0 };
 
-// In place of a range that depends on the indices: `range_at` does not read it.
+// In place of a range that depends on the indices: `range_at` does not read it. No `Option`: `range_at` has an arm for each of these tables, so that an arm for
+// None would never be reached, and would have to be shown so.
 const BY_INDEX: Range = ZERO;
 
 // The range of each table whose entries have one range. A table of its own beside that of the index sets: the readers of `tables`, below this crate, need no

@@ -1,4 +1,5 @@
 // The constant of any row: its family decides which.
+// A place is asked inside its index set (`Member`): the reason stands beside `Inside` (tables/specs/Layout.antt).
 #![tactic(auto)]
 
 ghost use Rattle.std.specs.Prelude.{◌≡◌};

@@ -8,7 +8,8 @@ ghost use Rattle.row_sums.specs.Sides.{above_nothing, sides_with, sides};
 use capped::Sum;
 use constants::{Constant, netted};
 
-// A row's positive and negative terms, summed apart.
+// A row's positive and negative terms, summed apart. No `Pair` (column_terms), though that has two sums too: with one type a column's sums could be handed
+// to the verdict on rows.
 #[derive(Clone, Copy)]
 pub struct Sides {
     pub above: Sum,

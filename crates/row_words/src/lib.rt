@@ -25,7 +25,7 @@ use sums::Place;
 use tables::sets::family_at;
 use writer::{Line, ROOM};
 
-// The families of rows, by number.
+// The families of rows, by number. A table beside `FAMILIES` (tables): document 01 names the three fields of that one, and the calls for C have no words.
 const FAMILY_NAMES: [&str; FAMILY_COUNT] = [
     "demand balance",
     "transfer limit",

@@ -1,4 +1,5 @@
 // What the rows of one year work on.
+// An index is asked below its count: the reason stands beside `Inside` (tables/specs/Layout.antt).
 ghost use Rattle.std.specs.Prelude.{◌≡◌, ◌<◌};
 ghost use Rattle.sums.specs.Span.{fine};
 ghost use Rattle.model.specs.Tests.{entries_fault};

@@ -10,8 +10,8 @@ use Rattle.model.specs.Columns.{column_sets, column_boxes}
 
 -- Counts that passed refusal 1. The fact is asked of who hands over bare counts, and is no field of a struct round them: `Counts` is the record of the
 -- definitions, which `read` makes of any list. Tried with a struct (`slices_of`, and `peaks` as its caller): no clause got shorter, and each answer over the
--- data's counts had to be turned by an equation. Who holds Tables, Plan or Multipliers shows the fact with nothing. What reads counts alone (`slices_of`,
--- `first_hour`, `after_first_hour`, `energy_place`, `lay_out_multipliers`) is not handed one of these instead: it would ask for a list that it does not read.
+-- data's counts had to be turned by an equation. Who holds Tables, Plan or Multipliers shows the fact with nothing. What reads counts alone (such as
+-- `slices_of`, `first_hour`, `energy_place`, `lay_out_multipliers`) is not handed one of these instead: it would ask for a list that it does not read.
 pub record Counted (c : Counts) : Type 0 where
   pub some_zones : 1 ≤ c.zones
   pub some_plants : 1 ≤ c.plants
@@ -55,9 +55,10 @@ pub record ColumnsAt (plan columns-at : List ℕ) (c : Counts) : Type 0 where
   pub whole : length plan ≡ count (column_boxes c)
   pub starts : (k : ℕ) → k ≤ length column_sets → get_or columns-at k 0 ≡ start_from c column_sets 0 k
 
--- four indices inside the index set of code k. The bounds are asked, here and, as an index below its count, in the crates of rows, constants, prices and
--- columns: each depends on another parameter's counts, so that no type of an index alone holds it. A struct of a plant's, a zone's or a link's indices would
--- serve the parts of a column; but it takes a type for each, and a row's line would read `at.y, at.g` where the documents have y, g
+-- four indices inside the index set of code k. The bounds are asked, here and, as an index below its count, in the crates above (`Member` and `RowAt` are the
+-- same of a place): each depends on another parameter's counts, so that no type of an index alone holds it. A struct of a plant's, a zone's or a link's
+-- indices would serve the parts of a column; but it takes a type for each, made for one call and taken apart again by each part, to read y, g as the documents
+-- have them
 pub record Inside (c : Counts) (k y i j s : ℕ) : Type 0 where
   pub year : y < (box_of (sets c) k).years
   pub «first» : i < (box_of (sets c) k).firsts

@@ -1,6 +1,7 @@
 // The families' numbers, counted from 0. Numbers and no enum: each is a place in the fixed table of families and in the sizes of `Shape`, the walks over all
-// families count with it, and a `Place` has the kind of a row, of a column or of an entry alike. An enum would need an arm for each of the 28, to make one of
-// a loop's number. RAMP_UPWARD is `ramp_upward` of the definitions: RAMP_UP is a table of the data.
+// families count with it, and a `Place` has the kind of a row, of a column or of an entry alike. An enum would need a list of its 28
+// values, or an arm for each, to make one of a loop's number, and be a number again at each table. That a number is one of them is asked where a table is read
+// by it. RAMP_UPWARD is `ramp_upward` of the definitions: RAMP_UP is a table of the data.
 pub const BALANCE: usize = 0;
 
 pub const TRANSFER: usize = 1;

@@ -3,7 +3,8 @@
 // Each is its index set's code handed to `entry_in`, which does the reading. With the code a constant, inlining leaves a few products and one read; so no
 // reader looks the code up by its table.
 // Readers of the same shape, as `by_plant` and `by_zone`, are not one with the code handed in: that is `entry_in`, at which a caller has to know that the
-// two indices of `by_year_plant` are the first and the second of four, and `by_day`'s the second and the third.
+// two indices of `by_year_plant` are the first and the second of four, and `by_day`'s the second and the third. One for both of a shape would be handed the
+// code, `by_first(ZONE, BY_PLANT, g)` for `by_plant(ZONE, g)`, and no call would say less.
 // Each asks its indices below their counts (`EntryAt`): the reason stands beside `Inside` (specs/Layout.antt).
 ghost use Rattle.std.specs.Prelude.{◌≡◌, List, ℕ, ◌+◌, ◌≤◌, ◌<◌, length, get_or};
 ghost use Rattle.sums.specs.Span.{fine};
@@ -67,8 +68,8 @@ pub struct TestedTables<'a> {
     pub ghost tested: { entries_fault (read tables.now.list.now) ≡ fine },
 }
 
-// A list that is read by table and index: the data, or a plan, whose tables are its kinds of column. Here are the readers of index sets that both have; what one
-// of them has alone stands below as a method of its own, since no call could read the other so.
+// A list that is read by table and index: the data, or a plan, whose tables are its kinds of column. Here are the readers of index sets that both have; what
+// one of them has alone stands below as a method of its own, since no call could read the other so.
 pub trait Entries {
     // The index sets of its tables, its counts, and the entry of a table at a year, a first index, a second index and a slice.
     ghost kinds: { List ℕ };

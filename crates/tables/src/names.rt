@@ -1,5 +1,6 @@
-// The tables' numbers: in the data list, and in the plan. Numbers and no enum: each is a place in the lists of index sets, ranges and starts, and the walks over
-// all tables count with them. An enum would need an arm for each of the 48 and the 14, to make one of a loop's number.
+// The tables' numbers: in the data list, and in the plan. Numbers and no enum: each is a place in the lists of index sets, ranges and starts, and the walks
+// over all tables count with them. An enum would need a list of its 48 and 14 values, or an arm for each, to make one of a loop's number, and be a number again
+// at each table. That a number is one of them is asked where a table is read by it.
 pub const RATE: usize = 0;
 
 pub const WEIGHT: usize = 1;

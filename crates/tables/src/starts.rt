@@ -96,7 +96,7 @@ const COLUMN_SETS: [usize; COLUMN_KIND_COUNT] = [
 ];
 
 // Two readers of two fixed tables, as `family_at` (sets.rt), `fixed_range` (ranges), `has_constant` (constants) and `most_count` (data_tests) read one each.
-// Each reads one table of the definitions, below that table's own bound; one for all would be handed the fixed table, which no caller has.
+// Each reads one table of the definitions, below that table's own bound; one for all would be handed the fixed table, which is private to its file.
 // The same of the two boxes and starts below.
 
 // The code of the index set of a table of the data.
@@ -134,7 +134,7 @@ pub fn column_box(c: Counts, k: usize) -> Box
 }
 
 // Where each of n parts of a list starts, and after the last of them where the list ends: the parts follow one another from the first place on.
-// A loop: a running sum of which each step is kept, in fixed memory.
+// A loop: each step of a running sum is kept. `scan` has no heap to be collected on, and `array::from_fn` goes on to N, so that each place would be tested.
 pub fn starts_of<const N: usize, F: Fn(usize) -> usize>(
     n: usize,
     from: usize,

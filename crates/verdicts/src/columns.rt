@@ -17,7 +17,7 @@ pub fn verdict(sums: Pair, price: Sum, column: usize) -> Result<(), Refusal>
     }
     match compared::compare(sums.up, capped::join(price, sums.down)) {
         Some(Ordering::Less | Ordering::Equal) => Ok(()),
-        // None is never reached: `up` is not over here, and an order is unknown of two sums that are over alone (compared's law `order-unknown`).
+        // None is never reached: `up` is not over here, and only of two sums that are both over is the order unknown (compared's law `order-unknown`).
         Some(Ordering::Greater) | None => Err(Refusal::Underpriced(column)),
     }
 }

@@ -7,7 +7,7 @@ use row_sums::Sides;
 use std::cmp::Ordering;
 
 // 6 where a sum is over the limit, else 7 where the row does not hold. `equal` is the family's flag of document 01's table of families: it says which order
-// holds, and is no step to choose. By the order of two sums, as the definition has it: of two numbers taken out of them it would have to be shown again.
+// holds, and is no step to choose. By `compare`: sums are compared in `compared` alone, as the head of `capped` has it, and in the definition too.
 #[tactic(auto, unfolding(crate::specs::Rows::verdict_of, compared::specs::Compared::over))]
 pub fn verdict(sides: Sides, equal: bool, row: usize) -> Result<(), Refusal>
     ensures { result ≡ verdict_of sides equal row }
