@@ -136,7 +136,7 @@ pub fn add_product_if(on: bool, s: Sum, a: u64, b: u64) -> Sum
     s
 }
 
-// The same of three factors.
+// The same of three factors. No crate calls it today; it is public, and its promise stands.
 pub fn add_product3_if(on: bool, s: Sum, a: u64, b: u64, c: u64) -> Sum
     ensures { result ≡ plus_if on s (a * b * c) }
 {

@@ -170,11 +170,7 @@ pub fn range_at(tables: &Tables, t: usize, i: usize, j: usize) -> Range
         GEN_CAP => any_where(tables.is_existing(i)),
         YEAR => plant_year(tables, i),
         MAX_NEW_CAP => any_where(!tables.is_existing(i)),
-        // An arm for each of the four, as each of the others has its own.
-        TL => any_where(i != j),
-        LINE_LIMIT => any_where(i != j),
-        MW_PER_LINE => any_where(i != j),
-        LINE_ANNUITY => any_where(i != j),
+        TL | LINE_LIMIT | MW_PER_LINE | LINE_ANNUITY => any_where(i != j),
         _ => fixed_range(t),
     }
 }

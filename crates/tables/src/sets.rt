@@ -210,6 +210,14 @@ pub fn slices_of(c: Counts) -> usize
     c.seasons * c.days * c.hours
 }
 
+// The index set of one member.
+const ONE: Box = Box {
+    years: 1,
+    firsts: 1,
+    seconds: 1,
+    slices: 1,
+};
+
 // The index set of a code. An unknown code has no members; no table, kind of column or family has one (the law `known-codes`, proofs/Laws.antt).
 #[tactic(auto, using(crate::proofs::Laws::boxed))]
 pub fn box_of(c: Counts, set: usize) -> Box
@@ -221,8 +229,8 @@ pub fn box_of(c: Counts, set: usize) -> Box
         BY_YEAR_ZONE_SLICE => Box {
             years: c.years,
             firsts: c.zones,
-            seconds: 1,
             slices: s,
+            ..ONE
         },
         BY_LINK_SLICE => Box {
             years: c.years,
@@ -233,80 +241,59 @@ pub fn box_of(c: Counts, set: usize) -> Box
         BY_YEAR_ZONE => Box {
             years: c.years,
             firsts: c.zones,
-            seconds: 1,
-            slices: 1,
+            ..ONE
         },
         BY_YEAR_PLANT_SLICE => Box {
             years: c.years,
             firsts: c.plants,
-            seconds: 1,
             slices: s,
+            ..ONE
         },
         BY_YEAR_PLANT_SEASON => Box {
             years: c.years,
             firsts: c.plants,
-            seconds: 1,
             slices: c.seasons,
+            ..ONE
         },
         BY_YEAR_PLANT => Box {
             years: c.years,
             firsts: c.plants,
-            seconds: 1,
-            slices: 1,
+            ..ONE
         },
         BY_PLANT => Box {
-            years: 1,
             firsts: c.plants,
-            seconds: 1,
-            slices: 1,
+            ..ONE
         },
         BY_YEAR_ZONE_FUEL => Box {
             years: c.years,
             firsts: c.zones,
             seconds: c.fuels,
-            slices: 1,
+            ..ONE
         },
-        SINGLE => Box {
-            years: 1,
-            firsts: 1,
-            seconds: 1,
-            slices: 1,
-        },
+        SINGLE => ONE,
         BY_YEAR => Box {
             years: c.years,
-            firsts: 1,
-            seconds: 1,
-            slices: 1,
+            ..ONE
         },
-        BY_SLICE => Box {
-            years: 1,
-            firsts: 1,
-            seconds: 1,
-            slices: s,
-        },
+        BY_SLICE => Box { slices: s, ..ONE },
         BY_DAY => Box {
-            years: 1,
             firsts: c.seasons,
             seconds: c.days,
-            slices: 1,
+            ..ONE
         },
         BY_PLANT_SEASON => Box {
-            years: 1,
             firsts: c.plants,
-            seconds: 1,
             slices: c.seasons,
+            ..ONE
         },
         BY_PLANT_SLICE => Box {
-            years: 1,
             firsts: c.plants,
-            seconds: 1,
             slices: s,
+            ..ONE
         },
         BY_ZONE => Box {
-            years: 1,
             firsts: c.zones,
-            seconds: 1,
-            slices: 1,
+            ..ONE
         },
         BY_LINK_SEASON => Box {
             years: c.years,
@@ -318,19 +305,17 @@ pub fn box_of(c: Counts, set: usize) -> Box
             years: c.years,
             firsts: c.zones,
             seconds: c.zones,
-            slices: 1,
+            ..ONE
         },
         BY_YEAR_FUEL => Box {
             years: c.years,
-            firsts: 1,
             seconds: c.fuels,
-            slices: 1,
+            ..ONE
         },
         BY_PAIR => Box {
-            years: 1,
             firsts: c.zones,
             seconds: c.zones,
-            slices: 1,
+            ..ONE
         },
         _ => Box {
             years: 0,
