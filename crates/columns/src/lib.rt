@@ -28,8 +28,7 @@ pub fn column_sums(pricing: &Pricing, p: Place) -> Pair
     requires { Member (column_boxes pricing.now.multipliers.counts) (index_of p) }
     ensures { result ≡ priced_pair (data_of pricing.now.tested.tables.now) pricing.now.multipliers.list.now (index_of p) }
 {
-    let k = p.kind;
-    match k {
+    match p.kind {
         CAP => cap_column(pricing, p.year, p.first),
         BUILD => build_column(pricing, p.year, p.first),
         RETIRE => retire_column(pricing, p.year, p.first),

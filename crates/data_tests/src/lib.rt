@@ -105,7 +105,7 @@ pub fn test_head(data: &[u32]) -> Result<(), Refusal>
 }
 
 // The data that passed refusals 1 and 2, with its counts and the starts of its tables.
-pub fn lay_out<'a>(list: &'a [u32]) -> Tables<'a>
+pub fn lay_out(list: &[u32]) -> Tables<'_>
     requires { or_else (head_fault list.now) (or_else (counts_fault list.now) (length_fault list.now)) ≡ fine }
     ensures { result.list.now ≡ list.now }
 {

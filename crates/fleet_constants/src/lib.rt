@@ -19,10 +19,7 @@ pub fn stock_constant(tables: &Tables, y: usize, g: usize) -> Constant
     requires { (y < tables.now.counts.years) × (g < tables.now.counts.plants) }
     ensures { result ≡ constant_of (data_of tables.now) (row 12 y g 0 0) }
 {
-    if y != 0 {
-        return NONE;
-    }
-    if !tables.is_existing(g) {
+    if y != 0 || !tables.is_existing(g) {
         return NONE;
     }
     Constant::taking(tables.by_plant(GEN_CAP, g))

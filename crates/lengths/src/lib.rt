@@ -11,7 +11,7 @@ ghost use Rattle.lengths.specs.Length.{bit_length};
 pub fn bit_length(n: u64) -> u32
     ensures { result ≡ bit_length n }
 {
-    64 - u64::leading_zeros(n)
+    u64::BITS - n.leading_zeros()
 }
 
 // The lengths of two numbers, added up.

@@ -2,10 +2,10 @@
 use mathlib.Core.Path.{◌≡◌, refl, sym, ap, ◌∙◌}
 use mathlib.Core.List.{List}
 use Prim.Native.Nat.{ℕ, ◌+◌, ◌*◌, ◌-◌, ◌≤◌, ◌<◌, max}
-use native.Mathlib.Nat.{add-sub_cancel_left, mul-pos, mul-one, add-zero, sub-zero}
+use native.Mathlib.Nat.{add-sub_cancel_left, mul-pos, mul-one, add-zero}
 use native.Mathlib.Omega.{arith}
 use lib.ListN.{length, get_or, take, drop, length-drop}
-use lib.Seq.{take_all, get_or-take, get_or-drop, length-take-le}
+use lib.Seq.{get_or-take, get_or-drop, length-take-le}
 use Rattle.sums.specs.Sum.{largest}
 use Rattle.sums.proofs.Largest.{largest-same, largest-one, highest, highest-halves}
 use Rattle.model.specs.declared.Counts.{Counts}
@@ -24,12 +24,9 @@ peak-none l e = rw e
 pub peak-one : (l : List ℕ) → length l ≡ 1 → get_or l 0 0 ≡ highest l
 peak-one l e = rw e (sym (largest-one (λ i. get_or l i 0)))
 
--- the halves as the code takes them: parts that start at 0 and at h
-pub peak-halves : {r a b : ℕ} (h : ℕ) (l : List ℕ) → r ≡ max a b → a ≡ highest (take (h - 0) (drop 0 l)) → b ≡ highest (take (length l - h) (drop h l))
-    → r ≡ highest l
-peak-halves h l e p q =
-    let rest : length (drop h l) ≤ length l - h = omega (arith, length-drop h l) in
-    e ∙ rw (p, q, sub-zero, take_all (length l - h) (drop h l) rest) (sym (highest-halves h l))
+-- the halves as the code takes them: parts that end and start at h
+pub peak-halves : {r a b : ℕ} (h : ℕ) (l : List ℕ) → r ≡ max a b → a ≡ highest (take h l) → b ≡ highest (drop h l) → r ≡ highest l
+peak-halves h l e p q = e ∙ rw (p, q) (sym (highest-halves h l))
 
 -- The part of the Demand table that is read for one year and zone
 

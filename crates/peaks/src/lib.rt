@@ -15,16 +15,14 @@ use tables::sets::{BY_YEAR_ZONE_SLICE, inside_of, slices_of};
 fn peak_of(demand: &[u32]) -> u32
     ensures { result ≡ largest (length demand.now) (λ i. get_or demand.now i 0) }
 {
-    if demand.is_empty() {
-        return 0;
+    match demand {
+        [] => 0,
+        [only] => *only,
+        _ => {
+            let (earlier, later) = demand.split_at(demand.len() / 2);
+            peak_of(earlier).max(peak_of(later))
+        }
     }
-    if demand.len() == 1 {
-        return demand[0];
-    }
-    let half = demand.len() / 2;
-    let earlier = peak_of(&demand[0..half]);
-    let later = peak_of(&demand[half..]);
-    earlier.max(later)
 }
 
 // The largest Demand[y,z,·], over a part of the data. `hour_costs` takes a part of the plan likewise. A method of `Entries` for both would have

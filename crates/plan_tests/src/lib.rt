@@ -21,11 +21,11 @@ pub fn column_count(counts: Counts) -> usize
 }
 
 // Refusals 4 and 5.
-#[tactic(auto, using(crate::proofs::Laws::scale_zero, crate::proofs::Laws::scale_large, crate::proofs::Laws::plan_short, crate::proofs::Laws::plan_fits))]
+#[tactic(auto, using(crate::proofs::Laws::plan_short, crate::proofs::Laws::plan_fits))]
 pub fn test_plan(scale: u32, places: usize, columns: usize) -> Result<(), Refusal>
     ensures { result ≡ plan_test scale places columns }
 {
-    if scale == 0 || scale > 1000 {
+    if !(1..=1000).contains(&scale) {
         return Err(Refusal::Scale);
     }
     if places != columns {
@@ -35,7 +35,7 @@ pub fn test_plan(scale: u32, places: usize, columns: usize) -> Result<(), Refusa
 }
 
 // A plan of the right length, with the starts of its tables. `Counted` is asked: the reason stands beside it (tables/specs/Layout.antt).
-pub fn lay_out_plan<'a>(list: &'a [u32], counts: Counts) -> Plan<'a>
+pub fn lay_out_plan(list: &[u32], counts: Counts) -> Plan<'_>
     requires { Counted counts × (length list.now ≡ count (column_boxes counts)) }
     ensures { (result.list.now ≡ list.now) × (result.counts ≡ counts) }
 {

@@ -29,8 +29,7 @@ pub fn constant_at(tested: &TestedTables, p: Place) -> Constant
     requires { Member (row_boxes tested.now.tables.now.counts) (index_of p) }
     ensures { result ≡ constant_of (data_of tested.now.tables.now) (index_of p) }
 {
-    let k = p.kind;
-    match k {
+    match p.kind {
         BALANCE => balance_constant(tested, p.year, p.first, p.slice),
         TRANSFER => transfer_constant(tested.tables, p.year, p.first, p.second, p.slice),
         SPINNING => spinning_constant(tested.tables, p.year, p.first, p.slice),

@@ -8,8 +8,7 @@ ghost use Rattle.sums.specs.Linear.{nothing, ◌·◌};
 ghost use Rattle.model.specs.Counts.{slices_of};
 ghost use Rattle.model.specs.Families.{row};
 ghost use Rattle.model.specs.Standing.{trans_in⁺, trans_in⁻};
-ghost use Rattle.column_terms.specs.Pairs.{pair_of};
-ghost use Rattle.column_terms.specs.Pairs.{RowAt};
+ghost use Rattle.column_terms.specs.Pairs.{pair_of, RowAt};
 ghost use Rattle.tables.specs.Lists.{data_of};
 
 use column_terms::Pair;

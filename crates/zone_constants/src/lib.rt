@@ -2,11 +2,11 @@
 // An index is asked below its count: the reason stands beside `Inside` (tables/specs/Layout.antt).
 #![tactic(auto, unfolding(constants::specs::Constants::constant_of))]
 
-ghost use Rattle.std.specs.Prelude.{◌≡◌, ◌<◌};
+ghost use Rattle.std.specs.Prelude.{◌≡◌, ◌+◌, ◌<◌, ◌≤◌};
 ghost use Rattle.model.specs.Counts.{slices_of};
+ghost use Rattle.model.specs.Data.{ee, prm};
 ghost use Rattle.model.specs.Families.{row};
 ghost use Rattle.constants.specs.Constants.{constant_of};
-ghost use Rattle.zone_constants.specs.Zones.{ZoneRates};
 ghost use Rattle.tables.specs.Lists.{data_of};
 
 use constants::Constant;
@@ -16,22 +16,20 @@ use peaks::zone_peak;
 use tables::lists::{Entries, Tables, TestedTables};
 use tables::names::{DEMAND, EE, LINE_LIMIT, PRM, S_RES, TL};
 
-// Thousandths that a zone's load is multiplied by: in the balance the Demand of a slice by EE, for firm capacity the peak by 1000 + PRM.
-#[derive(Clone, Copy)]
-pub struct Rates {
-    pub ee: u64,
-    pub margin: u64,
+// The thousandths that the Demand of a slice is multiplied by in the balance.
+fn ee_of(tested: &TestedTables, y: usize, z: usize) -> u64
+    requires { (y < tested.now.tables.now.counts.years) × (z < tested.now.tables.now.counts.zones) }
+    ensures { (result ≡ ee (data_of tested.now.tables.now) y z) × (result ≤ 5000) }
+{
+    tested.tables.by_year_zone(EE, y, z)
 }
 
-fn rates_of(tested: &TestedTables, y: usize, z: usize) -> Rates
-    requires { (y < tested.now.tables.now.counts.years) × (z < tested.now.tables.now.counts.zones) }
-    ensures { ZoneRates (data_of tested.now.tables.now) y z result }
+// The thousandths that the peak is multiplied by for firm capacity: 1000 + PRM.
+fn margin_of(tested: &TestedTables, z: usize) -> u64
+    requires { z < tested.now.tables.now.counts.zones }
+    ensures { (result ≡ 1000 + prm (data_of tested.now.tables.now) z) × (result ≤ 2000) }
 {
-    let prm = tested.tables.by_zone(PRM, z);
-    Rates {
-        ee: tested.tables.by_year_zone(EE, y, z),
-        margin: 1000 + prm,
-    }
+    1000 + tested.tables.by_zone(PRM, z)
 }
 
 // 1: − Demand·EE
@@ -39,10 +37,8 @@ pub fn balance_constant(tested: &TestedTables, y: usize, z: usize, s: usize) -> 
     requires { (y < tested.now.tables.now.counts.years) × ((z < tested.now.tables.now.counts.zones) × (s < slices_of tested.now.tables.now.counts)) }
     ensures { result ≡ constant_of (data_of tested.now.tables.now) (row 1 y z 0 s) }
 {
-    let rates = rates_of(tested, y, z);
     let demand = tested.tables.by_year_zone_slice(DEMAND, y, z, s);
-    let load = demand * rates.ee;
-    Constant::taking(load)
+    Constant::taking(demand * ee_of(tested, y, z))
 }
 
 // 2: TL
@@ -71,11 +67,10 @@ pub fn firm_constant(tested: &TestedTables, y: usize, z: usize) -> Constant
     ensures { result ≡ constant_of (data_of tested.now.tables.now) (row 4 y z 0 0) }
 {
     let links = lowest_limits_into(tested.tables, y, z);
-    let rates = rates_of(tested, y, z);
     let peak = zone_peak(tested.tables, y, z);
     Constant {
         adds: 1000 * links,
-        takes: rates.margin * peak,
+        takes: margin_of(tested, z) * peak,
     }
 }
 

@@ -1,16 +1,14 @@
-use borrow.Author.Rules.{rules}
-use Prim.Native.Nat.{◌/◌}
-use lib.ListN.{length}
+use native.Mathlib.Omega.{arith}
 use Rattle.peaks.proofs.Laws.{peak-none, peak-one, peak-halves}
 use Rattle.peaks.proofs.+peak_of.Goals as goal
 
-pub returns-then-is_empty : goal.returns-then-is_empty
-returns-then-is_empty t c = peak-none c.args.demand.now (search rules)
+pub returns-in-empty : goal.returns-in-empty
+returns-in-empty t c = peak-none c.args.demand.now (omega (arith, c.in-empty.len_below))
 
-pub returns-then-demand-eq1 : goal.returns-then-demand-eq1
-returns-then-demand-eq1 t c = peak-one c.args.demand.now c.if-demand-eq1.true
+pub returns-in-len1 : goal.returns-in-len1
+returns-in-len1 t c = peak-one c.args.demand.now (omega (arith, c.in-len1.len_at_least, c.in-len1.len_below))
 
-pub returns : goal.returns
-returns t c =
-    let l = c.args.demand.now in
-    peak-halves (length l / 2) l c.max.ensures c.peak_of-earlier.ensures c.peak_of-later.ensures
+pub returns-in_default : goal.returns-in_default
+returns-in_default t c =
+    let parts = c.split_at.ensures in
+    peak-halves _ c.args.demand.now c.max.ensures (rw parts.front at c.peak_of.ensures) (rw parts.back at c.peak_of-in_default.ensures)
