@@ -155,7 +155,7 @@ impl Multipliers<'_> {
 }
 
 // A multiplier for every row, with the starts of the families. `Counted` is asked: the reason stands beside it (tables/specs/Layout.antt).
-pub fn lay_out_multipliers<'a>(list: &'a [i64], counts: Counts) -> Multipliers<'a>
+pub fn lay_out_multipliers(list: &[i64], counts: Counts) -> Multipliers<'_>
     requires { Counted counts × (length list.now ≡ count (row_boxes counts)) }
     ensures { (result.list.now ≡ list.now) × (result.counts ≡ counts) }
 {
