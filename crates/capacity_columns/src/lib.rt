@@ -11,10 +11,9 @@ ghost use Rattle.capacity_columns.specs.Groups.{rates_of, cap_in_slice⁻, cap_i
 ghost use Rattle.tables.specs.Lists.{data_of};
 
 use column_terms::Pair;
-use column_terms::readers::{
-    after_first_hour, available_hours, on_min_load_day, out_of_service, weighted_annuity, zone_of,
-};
+use column_terms::readers::{after_first_hour, available_hours, weighted_annuity, zone_of};
 use duals::Pricing;
+use parts::slices::on_min_load_day;
 use tables::families::{
     AVAILABLE, CAPITAL, CHARGE_FALL, CHARGE_LIMIT, CHARGE_RISE, FIRM, FIXED, LIFE, LOADING,
     MINIMUM_LOAD, NEW_CAPACITY, OFFER, PROFILED, RAMP_DOWN, RAMP_UPWARD, STOCK, YEARLY_BUILD,
@@ -110,7 +109,7 @@ fn cap_in_year(pricing: &Pricing, y: usize, g: usize) -> Pair
     let z = zone_of(&pricing.tested, g);
     let credit = pricing.tested.tables.by_plant(CAP_CREDIT, g);
     let next = y + 1;
-    let out = out_of_service(pricing.tested.tables, y, g);
+    let out = pricing.tested.tables.out_of_service(y, g);
     let existing = pricing.tested.tables.is_existing(g);
     let annuity = weighted_annuity(&pricing.tested, y, g);
     Pair::none()

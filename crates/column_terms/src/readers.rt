@@ -1,17 +1,17 @@
-// What the columns read in common: a plant's zone and fuel, the conditions of the rows, and the coefficients that are products.
+// What the columns read in common: a plant's zone and fuel, the condition of the ramps' rows, and the coefficients that are products.
 // An index is asked below its count: the reason stands beside `Inside` (tables/specs/Layout.antt).
 ghost use Rattle.std.specs.Prelude.{◌≡◌, ◌*◌, ◌-◌, ◌%◌, ◌<◌, ltb};
 ghost use Rattle.model.specs.Counts.{slices_of};
-ghost use Rattle.model.specs.Data.{zone, fuel, on_min_load_day, duration, availability, rate, weight, annuity, loss};
-ghost use Rattle.model.specs.Families.{season_sum, out_of_service};
+ghost use Rattle.model.specs.Data.{zone, fuel, duration, availability, rate, weight, annuity, loss};
+ghost use Rattle.model.specs.Families.{season_sum};
 ghost use Rattle.tables.specs.Layout.{Counted};
 ghost use Rattle.column_terms.specs.Readers.{PlantTable};
 ghost use Rattle.tables.specs.Lists.{data_of};
 
 use model::Counts;
-use parts::slices::{day_of, first_hour, season_of};
+use parts::slices::first_hour;
 use tables::lists::{Entries, Tables, TestedTables};
-use tables::names::{ANNUITY, AVAILABILITY, DURATION, FUEL, LOSS, MIN_LOAD, YEAR, ZONE};
+use tables::names::{ANNUITY, AVAILABILITY, DURATION, FUEL, LOSS, ZONE};
 use terms::plants::{season_hours, year_weight};
 
 // A plant's zone and its fuel are two readers: each result is below a count of its own, and one for both would ask for the table and the count.
@@ -35,30 +35,6 @@ pub fn after_first_hour(c: Counts, s: usize) -> bool
     ensures { result ≡ ltb 0 (s % c.hours) }
 {
     !first_hour(c, s)
-}
-
-pub fn on_min_load_day(tables: &Tables, s: usize) -> bool
-    requires { s < slices_of tables.now.counts }
-    ensures { result ≡ on_min_load_day (data_of tables.now) s }
-{
-    tables.by_day(
-        MIN_LOAD,
-        season_of(tables.counts, s),
-        day_of(tables.counts, s),
-    ) == 1
-}
-
-// Family 13's condition: an existing plant from its retirement year on, a candidate before its commission year.
-pub fn out_of_service(tables: &Tables, y: usize, g: usize) -> bool
-    requires { (y < tables.now.counts.years) × (g < tables.now.counts.plants) }
-    ensures { result ≡ out_of_service (data_of tables.now) y g }
-{
-    let year = tables.by_plant(YEAR, g);
-    let this_year = y as u64 + 1;
-    if tables.is_existing(g) {
-        return year <= this_year;
-    }
-    this_year < year
 }
 
 // Availability·Σ Dur of season q, family 10.

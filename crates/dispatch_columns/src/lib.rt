@@ -11,9 +11,9 @@ ghost use Rattle.tables.specs.Lists.{data_of};
 
 use column_terms::Pair;
 use column_terms::ramps::in_ramps;
-use column_terms::readers::{fuel_of, hourly, on_min_load_day, zone_of};
+use column_terms::readers::{fuel_of, hourly, zone_of};
 use duals::Pricing;
-use parts::slices::season_of;
+use parts::slices::{on_min_load_day, season_of};
 use tables::families::{
     AVAILABLE, BALANCE, BATTERY_LEVEL, FUEL_USE, LOADING, MINIMUM_LOAD, OFFER, PROFILED, RAMP_DOWN,
     RAMP_UPWARD, SPINNING, SYSTEM_EMISSION, ZONE_EMISSION,

@@ -16,11 +16,11 @@ ghost use Rattle.tables.specs.Lists.{data_of, entry_of};
 
 use capped::Sum;
 use energy::totals::{EnergyTable, energy_at};
-use parts::slices::{day_of, first_hour, season_of};
+use parts::slices::{first_hour, on_min_load_day};
 use parts::years::part_at;
 use row_sums::{Change, Sides, empty};
 use tables::lists::{Case, Entries, Plan};
-use tables::names::{AVAILABILITY, CAP, MIN_CAP_FAC, MIN_LOAD, OVER_LOAD, PROFILE, RES_OFFER};
+use tables::names::{AVAILABILITY, CAP, MIN_CAP_FAC, OVER_LOAD, PROFILE, RES_OFFER};
 use terms::plants::season_hours;
 
 // rate·cap, the rate in thousandths.
@@ -118,9 +118,7 @@ pub fn minimum_load(case: &Case, outputs: &[u32], y: usize, g: usize, s: usize) 
     requires { YearPart case.now.plan.list.now outputs.now case.now.plan.counts gen_kind y × ((y < case.now.plan.counts.years) × ((g < case.now.plan.counts.plants) × (s < slices_of case.now.plan.counts))) }
     ensures { (N : ℕ) → result ≡ sides_of (data_of case.now.tables) N (entry_of case.now.plan) (row 9 y g 0 s) }
 {
-    let season = season_of(case.plan.counts, s);
-    let day = day_of(case.plan.counts, s);
-    if case.tables.by_day(MIN_LOAD, season, day) != 1 {
+    if !on_min_load_day(&case.tables, s) {
         return empty();
     }
     let rate = case.tables.by_plant(MIN_CAP_FAC, g);

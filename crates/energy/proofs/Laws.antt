@@ -33,7 +33,6 @@ all_more k p f e h v w = e ∙ rw (h, v, w) (ap (λ (n : ℕ). all_if n p f) (sy
 -- The places
 
 module _ {c : Counts} (few : Counted c) where
-
   -- a slice of a season is one of the year's
   pub slice-below : {q i : ℕ} → q < c.seasons → i < season_length c → q * season_length c + i < slices_of c
   slice-below hq hi = omega (arith, below-product c.seasons (season_length c) hq hi, mul_assoc c.seasons c.days c.hours)

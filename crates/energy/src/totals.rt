@@ -10,6 +10,7 @@ ghost use Rattle.tables.specs.Lists.{data_of};
 
 use capped::Sum;
 use model::Counts;
+use parts::slices::season_length;
 use parts::years::part_at;
 use tables::lists::Tables;
 use tables::names::{DURATION, EMISSION, FUEL, HEAT_RATE, ZONE};
@@ -26,7 +27,7 @@ pub fn season_energy(tables: &Tables, outputs: &[u32], g: usize, q: usize) -> Su
     requires { (length outputs.now ≡ tables.now.counts.plants * slices_of tables.now.counts) × ((g < tables.now.counts.plants) × (q < tables.now.counts.seasons)) }
     ensures { result ≡ cap (season_sum (data_of tables.now) q (λ s. duration (data_of tables.now) s * get_or outputs.now (g * slices_of tables.now.counts + s) 0)) }
 {
-    let p = tables.counts.days * tables.counts.hours;
+    let p = season_length(tables.counts);
     let from = q * p;
     total(p, |i| {
         let hours = tables.by_slice(DURATION, from + i);

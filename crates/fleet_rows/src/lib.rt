@@ -2,9 +2,9 @@
 // An index is asked below its count: the reason stands beside `Inside` (tables/specs/Layout.antt).
 #![tactic(auto, unfolding(row_sums::specs::Sides::sides_of, row_sums::specs::Sides::sides_with, constants::specs::Constants::constant_of), using(row_sums::proofs::Laws::exact_sums))]
 
-ghost use Rattle.std.specs.Prelude.{◌≡◌, not, ℕ, ◌<◌};
+ghost use Rattle.std.specs.Prelude.{◌≡◌, ℕ, ◌<◌};
 ghost use Rattle.sums.specs.Index.{Index};
-ghost use Rattle.model.specs.Families.{row, out_of_service};
+ghost use Rattle.model.specs.Families.{row};
 ghost use Rattle.energy.specs.Energies.{Energies};
 ghost use Rattle.row_sums.specs.Sides.{sides_of};
 ghost use Rattle.tables.specs.Lists.{data_of, entry_of};
@@ -16,7 +16,7 @@ use fleet_constants::{
 };
 use row_sums::{Sides, at_most, at_most_zero, empty, with_constant};
 use tables::lists::{Case, Entries, Tables};
-use tables::names::{BUILD, CAP, RETIRE, YEAR};
+use tables::names::{BUILD, CAP, RETIRE};
 use tables::sets::BY_YEAR_PLANT;
 use terms::plants::capital_sum;
 use terms::years::{earlier, over_years};
@@ -53,7 +53,7 @@ pub fn life(case: &Case, y: usize, g: usize) -> Sides
     requires { (y < case.now.plan.counts.years) × (g < case.now.plan.counts.plants) }
     ensures { (N : ℕ) → result ≡ sides_of (data_of case.now.tables) N (entry_of case.now.plan) (row 13 y g 0 0) }
 {
-    if in_service(&case.tables, y, g) {
+    if !case.tables.out_of_service(y, g) {
         return empty();
     }
     at_most_zero(capped::product(1, case.plan.by_year_plant(CAP, y, g)))
@@ -150,17 +150,4 @@ pub fn system_emission(tables: &Tables, energy: &EnergyTable, scale: u64, y: usi
         scale,
         system_emission_constant(tables, y),
     )
-}
-
-// Whether plant g may have capacity in year y: an existing plant before its retirement year, a candidate from its commission year on.
-fn in_service(tables: &Tables, y: usize, g: usize) -> bool
-    requires { (y < tables.now.counts.years) × (g < tables.now.counts.plants) }
-    ensures { result ≡ not (out_of_service (data_of tables.now) y g) }
-{
-    let this_year = (y + 1) as u64;
-    let year = tables.by_plant(YEAR, g);
-    if tables.is_existing(g) {
-        return this_year < year;
-    }
-    year <= this_year
 }

@@ -8,7 +8,6 @@ use Rattle.tables.specs.Layout.{Counted}
 use Rattle.tables.proofs.Laws.{few-slices}
 
 module _ {c : Counts} (n : Counted c) where
-
   -- a plant's slice in a year's part
   pub part-below : (g s : ℕ) → g < c.plants → s < slices_of c → g * slices_of c + s < c.plants * slices_of c
   part-below g s hg hs = below-product c.plants (slices_of c) hg hs

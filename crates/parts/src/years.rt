@@ -7,7 +7,7 @@ ghost use Rattle.tables.specs.Layout.{Counted};
 ghost use Rattle.parts.specs.Years.{YearPart};
 
 use model::Counts;
-use tables::lists::Plan;
+use tables::lists::{Plan, number_at};
 use tables::sets::slices_of;
 
 // The part of year y of a kind of column by year, plant and slice.
@@ -38,5 +38,5 @@ pub fn part_at(part: &[u32], c: Counts, g: usize, s: usize) -> u64
 {
     let n = slices_of(c);
     let at = g * n + s;
-    u64::from(part[at])
+    number_at(part, at)
 }

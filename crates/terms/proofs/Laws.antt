@@ -2,16 +2,13 @@
 -- `Summed` is a record and no product, so that a law finds the term f and the number of turns in the invariant.
 use mathlib.Core.Path.{◌≡◌, sym, ap, ◌∙◌}
 use mathlib.Core.Bool.{Bool, true, false}
-use Prim.Native.Nat.{ℕ, ◌+◌, ◌*◌, ◌≤◌, ◌<◌, zero-le}
-use native.Mathlib.Nat.{add-zero, mul-le-mul}
+use Prim.Native.Nat.{ℕ, ◌+◌, ◌≤◌, ◌<◌, zero-le}
+use native.Mathlib.Nat.{add-zero}
 use native.Mathlib.Omega.{arith}
 use Rattle.capped.specs.Cap.{cap, plus_if, Sum}
 use Rattle.capped.proofs.Laws.{plus-cap}
 use Rattle.sums.specs.Sum.{sum, on}
 use Rattle.sums.proofs.Sums.{sum-one-more}
-use Rattle.model.specs.declared.Counts.{Counts}
-use Rattle.model.specs.Counts.{season_length}
-use Rattle.tables.specs.Layout.{Counted}
 
 -- Terms under a test
 
@@ -32,12 +29,3 @@ summed-none e = record { upto = zero-le; is = e }
 module _ {n : ℕ} {f : ℕ → ℕ} {k : ℕ} {s : Sum} (h : Summed n f k s) where
   pub summed-more : {r : Sum} → k < n → r ≡ cap (sum k f + f k) → Summed n f (k + 1) r
   summed-more l e = record { upto = omega arith; is = e ∙ rw sum-one-more }
-
--- Slices of a season
-
--- the slices of a season, and those of the seasons before it
-pub few-season-slices : {c : Counts} → Counted c → {q : ℕ} → q < c.seasons → (season_length c ≤ 96) × (q * season_length c ≤ 288)
-few-season-slices few {q} hq =
-    let p = mul-le-mul few.few_days few.few_hours in
-    let h : q ≤ 3 = omega (arith, few.few_seasons) in
-    (p, mul-le-mul h p)

@@ -9,6 +9,7 @@ ghost use Rattle.tables.specs.Lists.{data_of, entry_of};
 
 use crate::totals::{exact_total, product_if, total};
 use capped::Sum;
+use parts::slices::season_length;
 use parts::years::part_at;
 use tables::lists::{Case, Entries, Tables};
 use tables::names::{ANNUITY, CAP, CAP_CREDIT, DURATION, RATE, WEIGHT, ZONE};
@@ -99,7 +100,7 @@ pub fn season_hours(tables: &Tables, q: usize) -> u64
     requires { q < tables.now.counts.seasons }
     ensures { (result ≡ sum (season_length tables.now.counts) (λ i. duration (data_of tables.now) (q * season_length tables.now.counts + i))) × (result ≤ 412316860320) }
 {
-    let p = tables.counts.days * tables.counts.hours;
+    let p = season_length(tables.counts);
     let from = q * p;
     exact_total(p, |i| tables.by_slice(DURATION, from + i))
 }
