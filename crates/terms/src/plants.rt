@@ -1,5 +1,5 @@
 // Sums over plants and over the slices of a season.
-ghost use Rattle.std.specs.Prelude.{◌≡◌, ◌+◌, ◌*◌, ◌≤◌, ◌<◌, eqb, length, get_or};
+ghost use Rattle.std.specs.Prelude.{ℕ, Bool, ◌≡◌, ◌+◌, ◌*◌, ◌≤◌, ◌<◌, eqb, length, get_or};
 ghost use Rattle.capped.specs.Cap.{cap};
 ghost use Rattle.sums.specs.Sum.{sum, on};
 ghost use Rattle.model.specs.Counts.{slices_of, season_length};
@@ -14,34 +14,45 @@ use parts::years::part_at;
 use tables::lists::{Case, Entries, Tables};
 use tables::names::{ANNUITY, CAP, CAP_CREDIT, DURATION, RATE, WEIGHT, ZONE};
 
-// A year's part here and in `vre_sum` is a bare slice, so its length is asked: document 01 has it as a slice part, handed on to row tests and to posting.
-// A loop here and in `vre_sum`, and no `total`: a sum of terms takes half as long again, and the rows of each slice wait for these two.
-// Two functions, and no one with the factor and the test handed in: these are all that the loop has beside the sum.
+// factor·Σ of a year's part over the plants of which a test holds, in slice s.
+// The part here and in the two sums below is a bare slice, so its length is asked: document 01 has it as a slice part, handed on to row tests and to posting.
+// A loop, and no `total` over `product_if`: that is proved with no proof file, but check as a whole takes a seventh to a quarter longer,
+// since the rows of each slice take these sums. With `fold` the result is left to be proved, by laws of the list of plants.
+// The test is handed in at no cost: the static library is the same, byte for byte, as with a loop for each of the two sums.
+fn plants_sum<P: Fn(usize) -> bool>(
+    tables: &Tables,
+    part: &[u32],
+    factor: u64,
+    s: usize,
+    here: P,
+) -> Sum
+    requires { ((length part.now ≡ tables.now.counts.plants * slices_of tables.now.counts) × (s < slices_of tables.now.counts)) × ((g : ℕ) → g < tables.now.counts.plants → P.pre here g) }
+    ensures { (p : ℕ → Bool) → ((g : ℕ) (b : Bool) → g < tables.now.counts.plants → P.post here g b → b ≡ p g)
+        → result ≡ cap (sum tables.now.counts.plants (λ g. on (p g) (factor * get_or part.now (g * slices_of tables.now.counts + s) 0))) }
+{
+    let mut sum = capped::zero();
+    for g in 0..tables.counts.plants {
+        sum = capped::add_product_if(here(g), sum, factor, part_at(part, tables.counts, g, s));
+    }
+    sum
+}
 
 // 1000·Σ of a year's part over the plants of zone z, in slice s.
 pub fn zone_sum(tables: &Tables, part: &[u32], z: u64, s: usize) -> Sum
     requires { (length part.now ≡ tables.now.counts.plants * slices_of tables.now.counts) × (s < slices_of tables.now.counts) }
     ensures { result ≡ cap (sum tables.now.counts.plants (λ g. on (eqb (zone (data_of tables.now) g) z) (1000 * get_or part.now (g * slices_of tables.now.counts + s) 0))) }
 {
-    let mut sum = capped::zero();
-    for g in 0..tables.counts.plants {
-        let here = tables.by_plant(ZONE, g) == z;
-        sum = capped::add_product_if(here, sum, 1000, part_at(part, tables.counts, g, s));
-    }
-    sum
+    plants_sum(tables, part, 1000, s, |g| tables.by_plant(ZONE, g) == z)
 }
 
-// Err·Σ gen of VRE over the plants of zone z, in slice s. `&` and no `&&`: the loop has one way through.
+// Err·Σ gen of VRE over the plants of zone z, in slice s. `&` and no `&&`: the loop of `plants_sum` has one way through.
 pub fn vre_sum(tables: &Tables, part: &[u32], z: u64, err: u64, s: usize) -> Sum
     requires { (length part.now ≡ tables.now.counts.plants * slices_of tables.now.counts) × (s < slices_of tables.now.counts) }
     ensures { result ≡ cap (sum tables.now.counts.plants (λ g. on (eqb (zone (data_of tables.now) g) z) (on (is_vre (data_of tables.now) g) (err * get_or part.now (g * slices_of tables.now.counts + s) 0)))) }
 {
-    let mut sum = capped::zero();
-    for g in 0..tables.counts.plants {
-        let here = (tables.by_plant(ZONE, g) == z) & tables.is_vre(g);
-        sum = capped::add_product_if(here, sum, err, part_at(part, tables.counts, g, s));
-    }
-    sum
+    plants_sum(tables, part, err, s, |g| {
+        (tables.by_plant(ZONE, g) == z) & tables.is_vre(g)
+    })
 }
 
 // Σ CapCredit·cap over the plants of zone z.

@@ -1,15 +1,16 @@
-use mathlib.Core.Path.{◌∙◌}
+use mathlib.Core.Path.{◌∙◌, ap}
+use mathlib.Core.Bool.{◌&&◌}
+use borrow.Author.Rules.{rules}
+use borrow.Author.Tests.{tests}
+use lib.Dec.{eqb}
+use Rattle.capped.specs.Cap.{cap}
+use Rattle.sums.proofs.Sums.{sum-cong}
 use Rattle.sums.proofs.Tests.{on_both}
-use Rattle.terms.proofs.Laws.{plus-on, summed-none, summed-more}
+use Rattle.model.specs.Data.{zone, is_vre}
+use Rattle.tables.specs.Lists.{data_of}
 use Rattle.terms.proofs.plants.vre_sum.Goals as goal
 
-pub loop-g-init : goal.loop-g-init
-loop-g-init c = summed-none c.zero-sum.ensures
-
-pub loop-g-preserved : goal.loop-g-preserved
-loop-g-preserved c =
-    let h = c.loop-g.invariant in
-    let zone-is = c.by_plant.ensures.0 in
-    let vre-is = c.is_vre.ensures in
-    let entry-is = c.part_at.ensures.0 in
-    summed-more h c.loop-g-test.true (c.add_product_if-sum.ensures ∙ rw (h.is, plus-on, on_both, zone-is, vre-is, entry-is))
+pub returns : goal.returns
+returns c =
+    let D = data_of c.args.tables.now in
+    c.plants_sum.ensures (λ g. eqb (zone D g) c.args.z && is_vre D g) (λ g b l k. search (rules, tests)) ∙ ap cap (sum-cong _ (λ g l. on_both (eqb (zone D g) c.args.z) (is_vre D g) _))
