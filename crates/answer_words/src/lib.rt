@@ -25,7 +25,8 @@ pub struct Inputs<'a> {
 }
 
 // The words of the refusals, by number; there is no refusal 0. They stand in the order of the numbers of documents 01 and 02, as `refusal_names` has them,
-// and the number is what the certify program prints: a `match` would be a third list of the refusals, beside `code_of` and `say_body`.
+// and the number is what the certify program prints: a `match` would name each case of `Refusal` a third time,
+// after `code_of` and `say_body`; the table needs the number alone.
 const REFUSAL_NAMES: [&str; 17] = [
     "",
     "Shape",

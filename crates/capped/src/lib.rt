@@ -77,7 +77,7 @@ pub fn product(a: u64, b: u64) -> Sum
 
 // Two lengths that add up to 64 or less leave a product that a word holds, and `of` compares it with the limit.
 // With more it is above the limit: one length alone is at most 64, so neither factor is 0.
-// Not by the library's `checked_mul`: that divides, and request (iii) asks for products without a division.
+// Not by the library's `checked_mul`, which divides: request (iii) leaves these lengths open, and no product here needs a division (docs/DECISIONS.md).
 fn long_product(a: u64, b: u64) -> Sum
     ensures { result ≡ cap (a * b) }
 {

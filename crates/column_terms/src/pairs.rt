@@ -1,5 +1,5 @@
 // The two sums of a column, made term by term: a column reads as the chain of its rows.
-// That there is such a row (`RowAt`) is asked of bare indices: the reason stands beside `Inside` (tables/specs/Layout.antt).
+// That there is a row of a family's number and four indices (`RowAt`) is asked: the reason stands beside `Inside` (tables/specs/Layout.antt).
 ghost use Rattle.std.specs.Prelude.{◌≡◌, true, List, ℕ, ◌<◌, ℤ};
 ghost use Rattle.sums.specs.Index.{index};
 ghost use Rattle.sums.specs.Linear.{Linear, ∑};

@@ -1,4 +1,4 @@
-// What the columns read in common: a plant's zone and fuel, the condition of the ramps' rows, and the coefficients that are products.
+// What the columns read in common: a plant's zone and fuel, whether an hour has one before it in its day, and the coefficients that are worked out.
 // An index is asked below its count: the reason stands beside `Inside` (tables/specs/Layout.antt).
 ghost use Rattle.std.specs.Prelude.{◌≡◌, ◌*◌, ◌-◌, ◌%◌, ◌<◌, ltb};
 ghost use Rattle.model.specs.Counts.{slices_of};

@@ -21,7 +21,8 @@ use tables::sets::BY_YEAR_PLANT;
 use terms::plants::capital_sum;
 use terms::years::{earlier, over_years};
 
-// `case` and `scale` stand together where a row has a constant. A `Case` with the scale in it would ask one of the costs and the energies, which have none.
+// `case` and `scale` stand together where a row has a constant. A `Case` with the scale in it would ask for a scale where costs and energies are made,
+// which need none.
 // A row without a constant is the same at every scale and takes none.
 // `tables` and `energy` stand together below: that these are the data's energies (`Energies`) is a premise of the promise, and not asked. A struct that held
 // the fact, as `rows::years::TestedCase` of the one caller does, would ask it.

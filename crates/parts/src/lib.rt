@@ -1,4 +1,5 @@
-// What rows, costs and posting read in common: the calendar of the slices, and the year's parts of the gen, reserve, charge and level tables.
+// What rows, columns, constants, energies and posting read in common: the calendar of the slices, the minimum-load days, and the year's parts of the gen,
+// reserve, charge and level tables.
 // An index is asked below its count: the reason stands beside `Inside` (tables/specs/Layout.antt).
 #![tactic(auto)]
 

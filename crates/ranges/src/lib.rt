@@ -43,8 +43,8 @@ const FLAG: Range = Range { least: 0, most: 1 };
 
 const ZERO: Range = Range { least: 0, most: 0 };
 
-// In place of a range that depends on the indices: `range_at` does not read it. No `Option`: `range_at` has an arm for each of these tables, so that an arm for
-// None would never be reached, and would have to be shown so.
+// In place of a range that depends on the indices: `range_at` does not read it. No `Option`: each of these tables is in an arm of `range_at`, so that an
+// arm for None would never be reached, and would have to be shown so.
 const BY_INDEX: Range = ZERO;
 
 // The range of each table whose entries have one range. A table of its own beside that of the index sets: the readers of `tables`, below this crate, need no

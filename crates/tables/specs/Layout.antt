@@ -55,10 +55,10 @@ pub record ColumnsAt (plan columns-at : List ℕ) (c : Counts) : Type 0 where
   pub whole : length plan ≡ count (column_boxes c)
   pub starts : (k : ℕ) → k ≤ length column_sets → get_or columns-at k 0 ≡ start_from c column_sets 0 k
 
--- four indices inside the index set of code k. The bounds are asked, here and, as an index below its count, in the crates above (`Member` and `RowAt` are the
--- same of a place): each depends on another parameter's counts, so that no type of an index alone holds it. A struct of a plant's, a zone's or a link's
--- indices would serve the parts of a column; but it takes a type for each, made for one call and taken apart again by each part, to read y, g as the documents
--- have them
+-- four indices inside the index set of code k. The bounds are asked, here and, as an index below its count, in the crates above (`Member` is the same of a
+-- place, `RowAt` of a family's number and four indices): each depends on another parameter's counts, so that no type of an index alone holds it. A struct of a
+-- plant's, a zone's or a link's indices would serve the parts of a column; but it takes a type for each, made for one call and taken apart again by each part,
+-- to read y, g as the documents have them
 pub record Inside (c : Counts) (k y i j s : ℕ) : Type 0 where
   pub year : y < (box_of (sets c) k).years
   pub «first» : i < (box_of (sets c) k).firsts

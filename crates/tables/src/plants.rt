@@ -1,5 +1,5 @@
 // What a plant is, and when it may have capacity.
-// Three tests and not one with the table and the number handed in: each is the definition of its name, and no plainer any other way.
+// `is_existing`, `is_vre`, `is_battery`, and not one with the table and the number handed in: each is the definition of its name, and no plainer any other way.
 // An index is asked below its count: the reason stands beside `Inside` (specs/Layout.antt).
 ghost use Rattle.std.specs.Prelude.{◌≡◌, ◌<◌};
 ghost use Rattle.model.specs.Data.{existing, is_vre, is_battery};

@@ -17,7 +17,7 @@ use tables::names::{ANNUITY, CAP, CAP_CREDIT, DURATION, RATE, WEIGHT, ZONE};
 // factor·Σ of a year's part over the plants of which a test holds, in slice s.
 // The part here and in the two sums below is a bare slice, so its length is asked: document 01 has it as a slice part, handed on to row tests and to posting.
 // A loop, and no `total` over `product_if`: that is proved with no proof file, but check as a whole takes a seventh to a quarter longer,
-// since the rows of each slice take these sums. With `fold` the result is left to be proved, by laws of the list of plants.
+// since the rows of each slice take these sums. A `fold` takes laws of the list of plants, where the loop has an invariant: no plainer.
 // The test is handed in at no cost: the static library is the same, byte for byte, as with a loop for each of the two sums.
 fn plants_sum<P: Fn(usize) -> bool>(
     tables: &Tables,

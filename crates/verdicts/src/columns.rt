@@ -7,7 +7,7 @@ use column_terms::Pair;
 use model::Refusal;
 use std::cmp::Ordering;
 
-// 11 where a sum is over the limit, else 12 where the terms above zero exceed the price and the terms below. By the order of two sums, as `verdict` of rows.
+// 11 where a sum is over the limit, else 12 where the terms above zero exceed the price and the terms below. By `compare`, as `verdict` of rows.
 #[tactic(auto, unfolding(crate::specs::Columns::verdict_of, compared::specs::Compared::over))]
 pub fn verdict(sums: Pair, price: Sum, column: usize) -> Result<(), Refusal>
     ensures { result ≡ verdict_of sums price column }

@@ -7,7 +7,8 @@ use row_sums::Sides;
 use std::cmp::Ordering;
 
 // 6 where a sum is over the limit, else 7 where the row does not hold. `equal` is the family's flag of document 01's table of families: it says which order
-// holds, and is no step to choose. By `compare`: sums are compared in `compared` alone, as the head of `capped` has it, and in the definition too.
+// holds, and is no step to choose. By `compare`: the crates above `capped` compare sums by `compared` alone (head of `capped`), and the
+// definition by `order`.
 #[tactic(auto, unfolding(crate::specs::Rows::verdict_of, compared::specs::Compared::over))]
 pub fn verdict(sides: Sides, equal: bool, row: usize) -> Result<(), Refusal>
     ensures { result ≡ verdict_of sides equal row }
