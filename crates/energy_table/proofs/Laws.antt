@@ -43,7 +43,6 @@ pub record Filled (F : ℕ → ℕ → ℕ → Sum) (G Q : ℕ) (energy : List S
   pub is : (y g q : ℕ) → g < G → q < Q → (y * G + g) * Q + q < place → get_or energy ((y * G + g) * Q + q) (Some 0) ≡ F y g q
 
 module _ {F : ℕ → ℕ → ℕ → Sum} {G Q : ℕ} where
-
   -- a number below place + 1 is below it, or it is place: then year, plant and season are those of the place
   pub fill_one : {energy : List Sum} {place : ℕ} (v : Sum) (y g q : ℕ) → g < G → q < Q → place ≡ (y * G + g) * Q + q → place < energy_count → v ≡ F y g q
       → Filled F G Q energy place → Filled F G Q (set energy place v) (place + 1)
