@@ -25,12 +25,12 @@ use Rattle.energy.specs.Energies.{Energies, energy_at, both_if, all_if, all_of, 
 
 -- Loops
 
--- a turn of a loop that joins the k-th sum where its test holds, and the loop's end
+-- a turn of a loop that joins the k-th sum where its test holds
 pub all_more : {r s t : Sum} {b : Bool} (k : ℕ) (p : ℕ → Bool) (f : ℕ → Sum) → r ≡ both_if b s t → s ≡ all_if k p f → b ≡ p k → t ≡ f k → r ≡ all_if (k + 1) p f
 unfolding all_if
 all_more k p f e h v w = e ∙ rw (h, v, w) (ap (λ (n : ℕ). all_if n p f) (sym (add-one k)))
 
--- The places
+-- Slices of a season
 
 module _ {c : Counts} (few : Counted c) where
   -- a slice of a season is one of the year's

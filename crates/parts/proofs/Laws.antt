@@ -1,4 +1,4 @@
--- Laws of the calendar and of the year's parts.
+-- Laws of the year's parts. Assumes nothing.
 use Prim.Native.Nat.{ℕ, ◌+◌, ◌*◌, ◌≤◌, ◌<◌}
 use native.Mathlib.Nat.{mul-le-mul}
 use Rattle.sums.proofs.Numbering.{below-product}

@@ -1,4 +1,4 @@
--- What the constant of any row cites: the families whose rows have none, and what an arm knows. Assumes nothing.
+-- What the constant of any row cites: the families whose rows have none, and those that have an arm of their own. Assumes nothing.
 use mathlib.Core.Path.{◌≡◌, refl, sym, ap, ◌∙◌}
 use mathlib.Core.Bool.{Bool, true, false}
 use mathlib.Core.List.{List, [], ◌∷◌}

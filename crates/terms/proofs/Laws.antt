@@ -1,4 +1,4 @@
--- The laws of the loops that sum: what holds after k turns, before the first, after one turn more, and at the end. Assumes nothing.
+-- A term under a test, and the loop that sums: what holds after k turns, before the first, and after one turn more. Assumes nothing.
 -- `Summed` is a record and no product, so that a law finds the term f and the number of turns in the invariant.
 use mathlib.Core.Path.{◌≡◌, sym, ap, ◌∙◌}
 use mathlib.Core.Bool.{Bool, true, false}

@@ -1,4 +1,4 @@
--- The scale of a text, the buffer of fixed size, and demand 3 of a text. Assumes nothing.
+-- The buffer of fixed size, and demand 3 of a text. Assumes nothing.
 use mathlib.Core.Path.{ap}
 use Rattle.model.proofs.Demand.{demand3}
 use Rattle.texts.specs.Format.{Text, frame_at, whole, text_of}
