@@ -9,11 +9,12 @@ use Prim.Native.Nat.{ℕ, ◌+◌, ◌*◌, ◌-◌, ◌^◌, ◌<◌, ◌≤◌
 use native.Mathlib.Nat.{add-zero, mul-zero, lt_of_lt_of_le, le-mul_of_pos_right, eq-zero-or-pos, mul_comm}
 use native.Mathlib.Omega.{arith}
 use lib.Dec.{leb}
+use lib.ListN.{get_or}
 use borrow.Author.Tests.{le-leb, lt-leb, leb-true, leb-false, ne_eqb}
 use Rattle.lengths.specs.Length.{bit_length}
 use Rattle.lengths.proofs.Laws.{length-least}
 use Rattle.std.specs.Prelude.{Some, None}
-use Rattle.capped.specs.Cap.{Sum, straight, half, limit, cap, plus, both, times, times_both}
+use Rattle.capped.specs.Cap.{Sum, straight, half, limit, cap, plus, both, times, times_both, kept_as, kept_sum}
 
 pub le-or-lt : (m n : ℕ) → (m ≤ n) ⊎ (n < m)
 le-or-lt m n = go (leb m n) refl
@@ -131,3 +132,13 @@ times-both m n = go (capped m) (capped n)
     go (high h) (low k) = rw (← cap-high m h) (times-cap m n)
     go (low h) (high k) = rw (← cap-high n k) (times-cap n m ∙ ap cap (mul_comm n m))
     go (high h) (high k) = sym (cap-high (m * n) (lt_of_lt_of_le h (le-mul_of_pos_right m (omega arith))))
+
+-- A sum that was stored comes back
+
+pub kept-cap : (n : ℕ) → kept_sum (kept_as (cap n)) ≡ cap n
+unfolding kept_as kept_sum
+kept-cap n = go (capped n)
+  where
+    go : {s : Sum} → Capped n s → cap (get_or (kept_as s) 0 0) ≡ s
+    go (low h) = cap-low n h
+    go (high h) = cap-high (limit + 1) (omega arith)

@@ -6,7 +6,7 @@
 
 ghost use Rattle.std.specs.Prelude.{◌≡◌, ◌&&◌, ◌+◌, ◌*◌, leb};
 ghost use Rattle.lengths.specs.Length.{bit_length};
-ghost use Rattle.capped.specs.Cap.{half, straight, cap, plus, plus_if, both, times, times_both};
+ghost use Rattle.capped.specs.Cap.{half, straight, cap, plus, plus_if, both, times, times_both, kept_as, kept_sum};
 
 // The largest total that a capped sum holds, 2^62 - 1: `limit` in the specs.
 pub const LIMIT: u64 = 0x3fff_ffff_ffff_ffff;
@@ -22,6 +22,9 @@ const WORD: u32 = 64;
 
 // The exact sum, or none where it is above the limit.
 pub type Sum = Option<u64>;
+
+// A sum as an array stores it: in one word, where a `Sum` takes two. Its form is known to this crate alone: `keep` makes one, `sum_kept` reads the sum back.
+pub type Kept = [u64; 1];
 
 pub fn zero() -> Sum
     ensures { result ≡ cap 0 }
@@ -125,6 +128,24 @@ pub fn add_product3(s: Sum, a: u64, b: u64, c: u64) -> Sum
     ensures { result ≡ plus s (a * b * c) }
 {
     join(s, scale(product(a, b), c))
+}
+
+// A sum that is over is kept as one more than the limit, which no exact sum is.
+#[tactic(auto, unfolding(crate::specs::Cap::kept_as, crate::specs::Cap::limit))]
+pub fn keep(s: Sum) -> Kept
+    ensures { result ≡ kept_as s }
+{
+    match s {
+        Some(v) => [v],
+        None => [LIMIT + 1],
+    }
+}
+
+#[tactic(auto, unfolding(crate::specs::Cap::kept_sum))]
+pub fn sum_kept(k: Kept) -> Sum
+    ensures { result ≡ kept_sum k }
+{
+    of(k[0])
 }
 
 // A product added where a test holds. Whether it is added is no step that a closure would choose better, and a loop with this call has one way through.

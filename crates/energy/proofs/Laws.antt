@@ -58,7 +58,7 @@ slices-by-season : (c : Counts) (f : ℕ → ℕ) → sum (slices_of c) f ≡ su
 slices-by-season c f = rw (mul_assoc c.seasons c.days c.hours) (sum-flat c.seasons (season_length c) f)
 
 -- The energies are those of the plan: what the rows of families 10, 17, 19 and 20 cite
-module _ {D : Data} {x : Index → ℕ} {energy : List Sum} {c : Counts} (n : Energies D x energy c) (e : D.counts ≡ c) {y : ℕ} (hy : y < c.years) where
+module _ {D : Data} {x : Index → ℕ} {energy : List (List ℕ)} {c : Counts} (n : Energies D x energy c) (e : D.counts ≡ c) {y : ℕ} (hy : y < c.years) where
   season-energy : (f g q : ℕ) → g < c.plants → q < c.seasons
       → times (energy_at c energy y g q) f ≡ cap (season_sum D q (λ s. f * duration D s * x (gen y g s)))
   season-energy f g q hg hq =

@@ -1,6 +1,6 @@
--- The plants' energy Σ Dur·gen by year and season, in a list of sums, and sums of them.
-use Rattle.std.specs.Prelude.{◌≡◌, Bool, true, false, List, Some, ℕ, zero, suc, ◌+◌, ◌*◌, ◌<◌, length, get_or}
-use Rattle.capped.specs.Cap.{cap, both, times, Sum}
+-- The plants' energy Σ Dur·gen by year and season, in a list of kept sums, and sums of them.
+use Rattle.std.specs.Prelude.{◌≡◌, Bool, true, false, List, [], ℕ, zero, suc, ◌+◌, ◌*◌, ◌<◌, length, get_or}
+use Rattle.capped.specs.Cap.{cap, both, times, kept_sum, Sum}
 use Rattle.sums.specs.Index.{Index}
 use Rattle.model.specs.declared.Counts.{Counts}
 use Rattle.model.specs.Data.{Data, duration}
@@ -11,15 +11,15 @@ use Rattle.model.specs.Families.{season_sum}
 abbrev pub energy_place : Counts → ℕ → ℕ → ℕ → ℕ
 energy_place c y g q = (y * c.plants + g) * c.seasons + q
 
-abbrev pub energy_at : Counts → List Sum → ℕ → ℕ → ℕ → Sum
-energy_at c energy y g q = get_or energy (energy_place c y g q) (Some 0)
+abbrev pub energy_at : Counts → List (List ℕ) → ℕ → ℕ → ℕ → Sum
+energy_at c energy y g q = kept_sum (get_or energy (energy_place c y g q) [])
 
 -- how many a list of them holds: 10 years, 32 plants and 4 seasons, the most of each
 abbrev pub energy_count : ℕ
 energy_count = 1280
 
 -- it is Σ Dur·gen
-pub record Energies (D : Data) (x : Index → ℕ) (energy : List Sum) (c : Counts) : Type 0 where
+pub record Energies (D : Data) (x : Index → ℕ) (energy : List (List ℕ)) (c : Counts) : Type 0 where
   pub long : length energy ≡ energy_count
   pub is : (y g q : ℕ) → y < c.years → g < c.plants → q < c.seasons
       → energy_at c energy y g q ≡ cap (season_sum D q (λ s. duration D s * x (gen y g s)))
@@ -38,5 +38,5 @@ abbrev pub all_of : ℕ → (ℕ → Sum) → Sum
 all_of n f = all_if n (λ i. true) f
 
 -- a factor times a plant's energies of one year
-abbrev pub year_energy : Counts → List Sum → ℕ → ℕ → ℕ → Sum
+abbrev pub year_energy : Counts → List (List ℕ) → ℕ → ℕ → ℕ → Sum
 year_energy c energy f y g = all_of c.seasons (λ q. times (energy_at c energy y g q) f)

@@ -1,6 +1,6 @@
 // The plants' energy Σ Dur·gen by year and season, summed once and used by families 10, 17, 19 and 20.
 ghost use Rattle.std.specs.Prelude.{ℕ, Bool, ◌≡◌, ◌&&◌, ◌+◌, ◌*◌, ◌<◌, eqb, length, get_or};
-ghost use Rattle.capped.specs.Cap.{cap, Sum};
+ghost use Rattle.capped.specs.Cap.{cap, both, Sum};
 ghost use Rattle.model.specs.Counts.{slices_of, [g]};
 ghost use Rattle.model.specs.Data.{zone, fuel, duration, heat_rate, emission};
 ghost use Rattle.model.specs.Families.{season_sum};
@@ -8,7 +8,7 @@ ghost use Rattle.tables.specs.Layout.{Counted, table_sets};
 ghost use Rattle.energy.specs.Energies.{energy_place, energy_at, all_if, all_of, year_energy, energy_count};
 ghost use Rattle.tables.specs.Lists.{data_of};
 
-use capped::Sum;
+use capped::{Kept, Sum};
 use model::Counts;
 use parts::slices::season_length;
 use parts::years::part_at;
@@ -19,7 +19,8 @@ use terms::totals::total;
 // A plant's energy in every year and season, as many of each as there may be: 10 years, 32 plants and 4 seasons. The memory is fixed: there is no heap.
 pub const ENERGY_COUNT: usize = 1280;
 
-pub type EnergyTable = [Sum; ENERGY_COUNT];
+// Each is kept in one word: as sums they would take twice the stack, and a refused call on a small system more than a third longer.
+pub type EnergyTable = [Kept; ENERGY_COUNT];
 
 // Σ Dur·gen of a plant over the slices of season q, from the year's part of gen.
 // The part is a bare slice, so its length is asked: document 01 has a year's part as a slice part, handed on to row tests and to posting.
@@ -44,24 +45,26 @@ pub fn energy_place(c: Counts, y: usize, g: usize, q: usize) -> usize
 }
 
 // The energy of a year, plant and season. `Counted` is asked as above.
+// Out of line: few rows read an energy, and where it is a part of the body that all rows share, check of a full-sized plan takes a quarter longer.
+#[inline(never)]
 pub fn energy_at(energy: &EnergyTable, c: Counts, y: usize, g: usize, q: usize) -> Sum
     requires { Counted c × ((y < c.years) × ((g < c.plants) × (q < c.seasons))) }
     ensures { result ≡ energy_at c energy.now y g q }
 {
-    energy[energy_place(c, y, g, q)]
+    capped::sum_kept(energy[energy_place(c, y, g, q)])
 }
 
-// The sum of those of n sums that a test passes. They need not be capped sums of numbers, as `total` asks: a caller lends the table of energies.
-// A loop: `filter`, `map` and `fold`, or one `fold`, are proved too, but are longer: the closure that calls the test needs a `requires` of its own.
-fn sum_of<P: Fn(usize) -> bool, F: Fn(usize) -> Sum>(n: usize, test: P, term: F) -> Sum
-    requires { (i : ℕ) → i < n → P.pre test i × F.pre term i }
-    ensures { (p : ℕ → Bool) (f : ℕ → Sum) → ((i : ℕ) (b : Bool) → i < n → P.post test i b → b ≡ p i) → ((i : ℕ) (r : Sum) → i < n → F.post term i r → r ≡ f i)
+// The sum of those of n sums that a test passes; `add` adds the i-th. They need not be capped sums of numbers, as `total` asks: a caller lends the table of energies.
+// A loop: of a closure that answered the i-th sum, `filter`, `map` and `fold`, or one `fold`, were proved too, but longer: the closure that calls the test needs a `requires` of its own.
+fn sum_of<P: Fn(usize) -> bool, F: Fn(Sum, usize) -> Sum>(n: usize, test: P, add: F) -> Sum
+    requires { (i : ℕ) → i < n → P.pre test i × ((s : Sum) → F.pre add s i) }
+    ensures { (p : ℕ → Bool) (f : ℕ → Sum) → ((i : ℕ) (b : Bool) → i < n → P.post test i b → b ≡ p i) → ((i : ℕ) (s r : Sum) → i < n → F.post add s i r → r ≡ both s (f i))
         → result ≡ all_if n p f }
 {
     let mut sum = capped::zero();
     for i in 0..n {
         if test(i) {
-            sum = capped::join(sum, term(i));
+            sum = add(sum, i);
         }
     }
     sum
@@ -78,7 +81,7 @@ fn year_energy(tables: &Tables, energy: &EnergyTable, factor: u64, y: usize, g: 
     sum_of(
         tables.counts.seasons,
         |_| true,
-        |q| capped::scale(energy_at(energy, tables.counts, y, g, q), factor),
+        |sum, q| capped::add_multiple(sum, energy_at(energy, tables.counts, y, g, q), factor),
     )
 }
 
@@ -97,7 +100,10 @@ fn energy_of<P: Fn(usize) -> bool>(
     sum_of(
         tables.counts.plants,
         here,
-        |g| year_energy(tables, energy, tables.by_plant(t, g), y, g),
+        |sum, g| capped::join(
+            sum,
+            year_energy(tables, energy, tables.by_plant(t, g), y, g),
+        ),
     )
 }
 

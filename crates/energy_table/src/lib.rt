@@ -18,7 +18,7 @@ pub fn fill_energies(case: &Case, energy: &mut EnergyTable)
         for g in 0..case.plan.counts.plants {
             for q in 0..case.plan.counts.seasons {
                 let place = energy_place(case.plan.counts, y, g, q);
-                energy[place] = season_energy(&case.tables, outputs, g, q);
+                energy[place] = capped::keep(season_energy(&case.tables, outputs, g, q));
             }
         }
     }

@@ -30,7 +30,7 @@ fn price(case: &Case, scale: u32) -> Result<u64, Refusal>
     requires { data_fault case.now.tables.list.now ≡ fine }
     ensures { result ≡ rows_and_cost (data_of case.now.tables) scale (entry_of case.now.plan) }
 {
-    let mut energy = [capped::zero(); ENERGY_COUNT];
+    let mut energy = [capped::keep(capped::zero()); ENERGY_COUNT];
     fill_energies(case, &mut energy);
     let tested = TestedCase {
         case: &*case,

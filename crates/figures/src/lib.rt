@@ -58,7 +58,7 @@ pub fn row_figures(data: &[u32], scale: u32, plan: &[u32], p: Place) -> Sides
     let tables = lay_out(data);
     let plan = lay_out_plan(plan, tables.counts);
     let case = Case { tables, plan };
-    let mut energy = [capped::zero(); ENERGY_COUNT];
+    let mut energy = [capped::keep(capped::zero()); ENERGY_COUNT];
     fill_energies(&case, &mut energy);
     let tested = TestedCase {
         case: &case,

@@ -13,7 +13,7 @@ loop-q-preserved c =
     let place = c.energy_place-place.ensures in (
       search rules,
       fill-same (omega arith)
-          (fill_one c.season_energy.result c.loop-y.y c.loop-g.g c.loop-q.q hg hq place.0 place.1
-          (part-season (read case.tables.list.now) case.plan.counted (case.tables.laid_out.counts ∙ sym case.same_counts) c.plan_part-outputs.ensures.part hg hq (rw case.same_counts c.season_energy.ensures))
+          (fill_one c.keep.result c.loop-y.y c.loop-g.g c.loop-q.q hg hq place.0 place.1
+          (part-season (read case.tables.list.now) case.plan.counted (case.tables.laid_out.counts ∙ sym case.same_counts) c.plan_part-outputs.ensures.part hg hq c.keep.ensures (rw case.same_counts c.season_energy.ensures))
           (fill-same (sym place.0) c.loop-q.invariant.1)),
     )

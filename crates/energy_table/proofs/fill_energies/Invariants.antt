@@ -1,4 +1,3 @@
-use Rattle.capped.specs.Cap.{Sum}
 use mathlib.Core.List.{List}
 use Prim.Native.Nat.{ℕ, ◌+◌, ◌*◌, ◌-◌, ◌≤◌}
 use Rattle.model.specs.declared.Counts.{Counts}
@@ -8,7 +7,7 @@ use Rattle.energy_table.proofs.Laws.{season_energy, Filled}
 use Rattle.energy_table.proofs.fill_energies.Given as goal
 
 -- Each loop keeps filled the place of every year, plant and season before its own.
-abbrev pub UpTo : List ℕ → List ℕ → Counts → List Sum → ℕ → Type 0
+abbrev pub UpTo : List ℕ → List ℕ → Counts → List (List ℕ) → ℕ → Type 0
 UpTo «data» plan c energy place = Filled (season_energy (read «data») (plan_entry c plan)) c.plants c.seasons energy place
 
 abbrev pub invariant-loop-q : goal.invariant-loop-q

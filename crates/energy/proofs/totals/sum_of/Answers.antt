@@ -17,7 +17,10 @@ loop-i-preserved g c =
       λ p f h k.
           let before = c.loop-i.invariant.1 p f h k in
           elim c.if-test.branch [
-            | then-test w ↦ all_more {b = true} c.loop-i.i p f (w.sum-is ∙ w.join-sum.ensures) before (sym w.if-test.true ∙ h _ _ l c.test.ensures) (k _ _ l w.term.ensures)
+            | then-test w ↦ all_more {b = true} c.loop-i.i p f (w.sum-is ∙ k _ _ _ l w.add-sum.ensures) before (sym w.if-test.true ∙ h _ _ l c.test.ensures) refl
             | else-test w ↦ all_more {t = f c.loop-i.i} {b = false} c.loop-i.i p f w.sum-is before (sym w.if-test.false ∙ h _ _ l c.test.ensures) refl
           ],
     )
+
+pub add-sum-requires : goal.add-sum-requires
+add-sum-requires g c = (c.requires _ c.loop-i-test.true).1 _
