@@ -5,4 +5,4 @@ use Rattle.parts.proofs.board.replace.Goals as goal
 
 pub returns : goal.returns
 unfolding replaced
-returns c = rw (c.copy_from_slice.ensures.after, add-sub_cancel_left, drop-drop)
+returns c = rw (c.write.ensures, add-sub_cancel_left, drop-drop)
