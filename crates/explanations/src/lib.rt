@@ -68,8 +68,9 @@ fn explain_frame(line: &mut Line<ROOM>, number: usize)
 fn say_explanation(line: &mut Line<ROOM>, input: &[u8])
     ensures { line.new ≡ added room line.old (explain_text input.now) }
 {
-    match read_text(input) {
-        Ok(numbers) => explain_numbers(line, &numbers),
+    let mut numbers = Numbers::new();
+    match read_text(input, &mut numbers) {
+        Ok(()) => explain_numbers(line, &numbers),
         Err(frame) => explain_frame(line, frame.line),
     }
 }

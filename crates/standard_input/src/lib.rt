@@ -40,6 +40,8 @@ pub fn read_input<R: Read>(stdin: &mut R, input: &mut [u8]) -> io::Result<usize>
 }
 
 // Reads once and drops what came; whether there may be more.
+// Out of line, so that its 64 KiB are no part of the frame on which an input is answered.
+#[inline(never)]
 fn drop_some<R: Read>(stdin: &mut R) -> bool {
     let mut scratch = [0u8; 65536];
     stdin.read(&mut scratch).is_ok_and(|count| count > 0)

@@ -2,7 +2,7 @@
 #![tactic(auto)]
 
 ghost use Rattle.std.specs.Prelude.{◌≡◌, ◌-◌, ◌≤◌, length};
-ghost use Rattle.text_numbers.specs.Numbers.{digit, digits_at, number_at};
+ghost use Rattle.text_numbers.specs.Numbers.{digit, digits_at, number_at, signed};
 
 // The value of a capital hexadecimal digit. By hand: `to_digit` and `from_str_radix` of the library take small letters too.
 #[tactic(auto, using(std::proofs::lemmas::Bool::Decides::nat_tests), unfolding(crate::specs::Numbers::digit))]
@@ -36,4 +36,11 @@ pub fn number_in(number: &[u8]) -> Option<u64>
         return None;
     };
     number_of(digits)
+}
+
+// Two's complement.
+pub fn signed_of(n: u64) -> i64
+    ensures { result ≡ signed n }
+{
+    n.cast_signed()
 }

@@ -122,6 +122,6 @@ pub failed : {A E : Type 0} (o : Option A) (d e : E) → Err d ≡ ok_or o e →
 failed (Some y) d e h = absurd cc
 failed None d e h = (refl, cc)
 
-pub text-frame : (r : Result Numbers Frame) (e : Frame) → IsErr r × IsErrAnd r (λ d. d ≡ e) → text_in r ≡ frame_at e.line
-text-frame (Ok n) e h = absurd cc
-text-frame (Err d) e h = rw h.1
+pub text-frame : (r : Result (Unit {0}) Frame) (n : Numbers) (e : Frame) → IsErr r × IsErrAnd r (λ d. d ≡ e) → text_in r n ≡ frame_at e.line
+text-frame (Ok u) n e h = absurd cc
+text-frame (Err d) n e h = rw h.1

@@ -5,6 +5,6 @@ use Rattle.texts.specs.Format.{Text, frame_at, whole}
 use Rattle.texts.specs.Numbers.{lists_in}
 use Rattle.text_reader.specs.declared.Frame.{Frame}
 
-abbrev pub text_in : Result Numbers Frame → Text
-text_in (Ok numbers) = whole (lists_in numbers)
-text_in (Err frame) = frame_at frame.line
+abbrev pub text_in : Result (Unit {0}) Frame → Numbers → Text
+text_in (Ok unit) numbers = whole (lists_in numbers)
+text_in (Err frame) numbers = frame_at frame.line

@@ -6,9 +6,10 @@ ghost use Rattle.std.specs.Option.{option_and};
 ghost use Rattle.texts.specs.Format.{no_lists, add_line};
 ghost use Rattle.texts.specs.Numbers.{lists_in};
 
-mod lines;
+pub mod lines;
 
-use crate::lines::{Word, join, word_of};
+pub use crate::lines::Word;
+use crate::lines::{join, word_of};
 use arrayvec::ArrayVec;
 
 // The most numbers of each word on all its lines.
@@ -21,7 +22,7 @@ pub const MOST_SCAL: usize = 1;
 pub const MOST_DUAL: usize = 4096;
 
 // The numbers of each word that the lines of a text have brought.
-#[derive(Debug, Default, PartialEq, Eq, Drop)]
+#[derive(Clone, Debug, Default, PartialEq, Eq, Drop)]
 pub struct Numbers {
     pub data: ArrayVec<u32, MOST_DATA>,
     pub plan: ArrayVec<u32, MOST_PLAN>,

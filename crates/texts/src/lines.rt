@@ -6,7 +6,7 @@ ghost use Rattle.text_numbers.specs.Numbers.{signed};
 ghost use Rattle.texts.specs.Format.{plain, digits, dual_digits, word_of, count, join};
 
 use arrayvec::ArrayVec;
-use text_numbers::number_in;
+use text_numbers::{number_in, signed_of};
 
 // The word that a line opens with.
 #[derive(Clone, Copy, Debug, PartialEq, Eq)]
@@ -63,7 +63,7 @@ impl FromDigits for i64 {
     ghost few = { lit≤ tt };
 
     fn from_digits(v: u64) -> i64 {
-        v.cast_signed()
+        signed_of(v)
     }
 }
 
