@@ -28,7 +28,11 @@ pub fn issue<'a>(
     ensures { result ≡ certificate (dual_fault (read «data».now) multipliers.now scale) cost (gap (read «data».now) multipliers.now scale cost) }
 {
     let tables = lay_out(data);
-    test_multipliers(multipliers, shape_of(tables.counts))?; // 9 or 10
+    // Matched and not handed on by `?`: an edit changes the refusal alone then, and the proof still fits.
+    match test_multipliers(multipliers, shape_of(tables.counts)) {
+        Ok(()) => {}
+        Err(r) => return Err(r), // 9 or 10
+    }
     let multipliers = lay_out_multipliers(multipliers, tables.counts);
     let pricing = Pricing {
         tested: TestedTables { tables: &tables },
